@@ -1,0 +1,9 @@
+pub mod Elem
+pub mod System
+pub mod Class
+pub mod Expansion
+pub mod Trail
+pub mod Verdict
+pub mod Algebra
+pub mod Theorems
+pub mod Bounds
