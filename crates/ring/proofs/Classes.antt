@@ -179,7 +179,7 @@ module _ (s : System) (p : ℕ) (o : 0 < p) where
   abbrev whole : Elem
   whole = record { x = pos p; y = pos 0 }
 
-  whole-mul : (q : Elem) → mul s whole q ≡ record { x = pos p *ℤ q .x; y = pos p *ℤ q .y }
+  pub whole-mul : (q : Elem) → mul s whole q ≡ record { x = pos p *ℤ q .x; y = pos p *ℤ q .y }
   whole-mul q = same (mul s whole q) (record { x = pos p *ℤ q .x; y = pos p *ℤ q .y })
       (solve (s .t ∷ s .n ∷ pos p ∷ q .x ∷ q .y ∷ []) (mulx (var 2, # 0) (var 3, var 4) .0) (var 2 ⊗ var 3) tt)
       (solve (s .t ∷ s .n ∷ pos p ∷ q .x ∷ q .y ∷ []) (mulx (var 2, # 0) (var 3, var 4) .1) (var 2 ⊗ var 4) tt)
@@ -228,7 +228,7 @@ module _ (s : System) where
   unfolding conj
   conj-conj a = same (conj s (conj s a)) a (solve (env1 s a) (conjx s (conjx s A) .0) (var 2) tt) (solve (env1 s a) (conjx s (conjx s A) .1) (var 3) tt)
 
-  conj-whole : (b : Elem) (p : ℕ) → norm s b ≡ pos p → mul s b (conj s b) ≡ record { x = pos p; y = pos 0 }
+  pub conj-whole : (b : Elem) (p : ℕ) → norm s b ≡ pos p → mul s b (conj s b) ≡ record { x = pos p; y = pos 0 }
   unfolding conj
   conj-whole b p e = same (mul s b (conj s b)) (record { x = pos p; y = pos 0 }) (solve (env1 s b) (mulx A (conjx s A) .0) (normx A) tt ∙ e) (solve (env1 s b) (mulx A (conjx s A) .1) (# 0) tt)
 
