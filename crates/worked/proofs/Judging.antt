@@ -69,7 +69,7 @@ before-from : (s : System) (a b : Elem) → Before s a b → T (before? s a b)
 before-from s a b (inl h) = either-left (ltZ (norm s a) (norm s b)) (every (eqZ (norm s a) (norm s b) ∷ either (ltZ (a .x) (b .x)) (every (eqZ (a .x) (b .x) ∷ ltZ (a .y) (b .y) ∷ [])) ∷ [])) (h .lt)
 before-from s a b (inr h) =
     either-right (ltZ (norm s a) (norm s b)) (every (eqZ (norm s a) (norm s b) ∷ either (ltZ (a .x) (b .x)) (every (eqZ (a .x) (b .x) ∷ ltZ (a .y) (b .y) ∷ [])) ∷ []))
-      (every-from (eqZ (norm s a) (norm s b) ∷ either (ltZ (a .x) (b .x)) (every (eqZ (a .x) (b .x) ∷ ltZ (a .y) (b .y) ∷ [])) ∷ []) (eqZ-from (norm s a) (norm s b) (h .0), (by (h .1), tt)))
+    (every-from (eqZ (norm s a) (norm s b) ∷ either (ltZ (a .x) (b .x)) (every (eqZ (a .x) (b .x) ∷ ltZ (a .y) (b .y) ∷ [])) ∷ []) (eqZ-from (norm s a) (norm s b) (h .0), (by (h .1), tt)))
   where
     by : (a .x <ℤ b .x) ⊎ ((a .x ≡ b .x) × (a .y <ℤ b .y)) → T (either (ltZ (a .x) (b .x)) (every (eqZ (a .x) (b .x) ∷ ltZ (a .y) (b .y) ∷ [])))
     by (inl k) = either-left (ltZ (a .x) (b .x)) (every (eqZ (a .x) (b .x) ∷ ltZ (a .y) (b .y) ∷ [])) (k .lt)
@@ -103,15 +103,18 @@ cleared-is s g v ds full n D X h = abs-bound s g v ds full D small near
   where
     q : All T (cleared-at s v ds n D X)
     q = every-is (cleared-at s v ds n D X) h
+
     small : (d : Elem) → Has ds d → absNorm s d ≤ D
     small d m = subst (λ u. absNorm s u ≤ D) (m .2 𝟘) (leb→le (absNorm s (getD ds (m .0) 𝟘)) D (all-below (length ds) (λ k. leb (absNorm s (getD ds k 𝟘)) D) (q .0) (m .0) (m .1)))
+
     inside : (K a N : ℕ) → 8 * D < (X + 1) * (X + 1) * K → 3 * (a * a) ≤ 4 * N → N * K ≤ 6 * D → a ≤ X
     inside K a N b l m = root (8 * D) K X a b (omega (arith, mul-le-mul-right K l))
+
     near : (z : Elem) → absNorm s z * (2 * s .p ^ suc v - 3) ≤ 6 * D → HasExpansion s (suc v) (Has ds) z
     near z l =
         let b = ltb→lt (8 * D) ((X + 1) * (X + 1) * (2 * s .p ^ suc v - 3)) (q .1 .0) in
         ends-is s g v ds full n z (all-in X (ends s v ds n) (q .1 .1 .0) z
-          (inside (2 * s .p ^ suc v - 3) (natAbs (z .x)) (absNorm s z) b (abs-x s g z) l) (inside (2 * s .p ^ suc v - 3) (natAbs (z .y)) (absNorm s z) b (abs-y s g z) l))
+        (inside (2 * s .p ^ suc v - 3) (natAbs (z .x)) (absNorm s z) b (abs-x s g z) l) (inside (2 * s .p ^ suc v - 3) (natAbs (z .y)) (absNorm s z) b (abs-y s g z) l))
 
 -- ---- barred
 abbrev earlier : System → ℕ → List Elem → ℕ → Elem → Elem → Bool
@@ -134,32 +137,44 @@ barred-is s g v ds full n first l p X h = record { none = none; earlier = before
   where
     f : ℕ → Elem
     f = walk s v ds first
+
     t : Trail s (suc v) (Has ds) f
     t = walk-is s g v ds full first
+
     q : All T (barred-at s v ds n first l p X)
     q = every-is (barred-at s v ds n first l p X) h
+
     some : 0 < p
     some = ltb→lt 0 p (q .0)
+
     back : f (l + p) ≡ f l
     back = eqE-is (f (l + p)) (f l) (q .1 .0)
+
     off : f l ≢ 𝟘
     off = eqE-not (f l) 𝟘 (q .1 .1 .0)
+
     apart : (a b : ℕ) → a < b → b < l + p → f a ≢ f b
     apart a b i j = eqE-not (f a) (f b) (all-below b (λ a. not (eqE (f a) (f b))) (all-below (l + p) (λ b. allBelow b (λ a. not (eqE (f a) (f b)))) (q .1 .1 .1 .0) b j) a i)
+
     round : LeadPeriod f l (l + p - l)
     round = lead-period f (steady s g v (Has ds) full f t) l (l + p) (omega (arith, some)) back apart
+
     none : ¬ (HasExpansion s (suc v) (Has ds) first)
     none e = let r = expansion-iff s g v (Has ds) full f t .0 e in never f (steady s g v (Has ds) full f t) (zero-stays s g v (Has ds) full f t) l p some back off (r .0) (r .1)
+
     at-most : (z : Elem) → Before s z first → absNorm s z ≤ absNorm s first
     at-most z (inl b) = omega (arith, ints, abs-is s g z, abs-is s g first)
     at-most z (inr b) = omega (arith, ap natAbs (b .0))
+
     inside : (a N M : ℕ) → 3 * (a * a) ≤ 4 * N → N ≤ M → 4 * M < (X + 1) * (X + 1) * 3 → a ≤ X
     inside a N M i j k = root (4 * M) 3 X a k (omega arith)
+
     before : (z : Elem) → Before s z first → HasExpansion s (suc v) (Has ds) z
     before z b = by (before? s z first) (before-from s z first b) (all-in X (earlier s v ds n first) (q .1 .1 .1 .1 .1 .0) z (inside (natAbs (z .x)) (absNorm s z) (absNorm s first) (abs-x s g z) (at-most z b) far) (inside (natAbs (z .y)) (absNorm s z) (absNorm s first) (abs-y s g z) (at-most z b) far))
       where
         far : 4 * absNorm s first < (X + 1) * (X + 1) * 3
         far = ltb→lt (4 * absNorm s first) ((X + 1) * (X + 1) * 3) (q .1 .1 .1 .1 .0)
+
         by : (c : Bool) → T c → T (elim c [ true ↦ ends s v ds n z | false ↦ true ]) → HasExpansion s (suc v) (Has ds) z
         by true u k = ends-is s g v ds full n z k
         by false u k = absurd u

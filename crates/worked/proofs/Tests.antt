@@ -89,7 +89,7 @@ all-in X f h z k l =
     let i = offset X (z .x) k in
     let j = offset X (z .y) l in
     subst (λ u. T (f u)) (same (place X (i .0) (j .0)) z (i .2) (j .2))
-      (all-below (2 * X + 1) (λ b. f (place X (i .0) b)) (all-below (2 * X + 1) (λ a. allBelow (2 * X + 1) (λ b. f (place X a b))) h (i .0) (i .1)) (j .0) (j .1))
+    (all-below (2 * X + 1) (λ b. f (place X (i .0) b)) (all-below (2 * X + 1) (λ a. allBelow (2 * X + 1) (λ b. f (place X a b))) h (i .0) (i .1)) (j .0) (j .1))
 
 -- ---- division by b, whose norm is m
 abbrev pub bar : System → Elem → Elem
@@ -119,8 +119,8 @@ quot-mul m o (negsuc k) = go (m * suc k) refl
 pub over-mul : (s : System) (b : Elem) (m : ℕ) → 1 ≤ m → norm s b ≡ pos m → (q : Elem) → over s b m (mul s b q) ≡ q
 over-mul s b m o e q =
     same (over s b m (mul s b q)) q
-      (ap (λ u. quotZ u (pos m)) (bar-mul s b q .0 ∙ ap (λ u. u *ℤ q .x) e) ∙ quot-mul m o (q .x))
-      (ap (λ u. quotZ u (pos m)) (bar-mul s b q .1 ∙ ap (λ u. u *ℤ q .y) e) ∙ quot-mul m o (q .y))
+    (ap (λ u. quotZ u (pos m)) (bar-mul s b q .0 ∙ ap (λ u. u *ℤ q .x) e) ∙ quot-mul m o (q .x))
+    (ap (λ u. quotZ u (pos m)) (bar-mul s b q .1 ∙ ap (λ u. u *ℤ q .y) e) ∙ quot-mul m o (q .y))
 
 pub dvd-from : (s : System) (b : Elem) (m : ℕ) → 1 ≤ m → norm s b ≡ pos m → (z : Elem) → Divides s b z → T (dvd s b m z)
 dvd-from s b m o e z d =

@@ -31,8 +31,15 @@ rules s = leZ (negsuc 0) (s .t) ∷ leZ (s .t) (pos 1) ∷ leZ (pos 1) (s .n) �
 pub lawful-is : (s : System) → T (every (rules s)) → Lawful s
 lawful-is s h =
     let q = every-is (rules s) h in
-    record { t-low = leZ-yes (q .0); t-high = leZ-yes (q .1 .0); n-low = leZ-yes (q .1 .1 .0); n-high = leZ-yes (q .1 .1 .1 .0);
-             p-is = eqZ-is (norm s (s .β)) (pos (s .p)) (q .1 .1 .1 .1 .0); p-low = leb→le 2 (s .p) (q .1 .1 .1 .1 .1 .0); p-high = leb→le (s .p) 8 (q .1 .1 .1 .1 .1 .1 .0) }
+    record {
+      t-low = leZ-yes (q .0);
+      t-high = leZ-yes (q .1 .0);
+      n-low = leZ-yes (q .1 .1 .0);
+      n-high = leZ-yes (q .1 .1 .1 .0);
+      p-is = eqZ-is (norm s (s .β)) (pos (s .p)) (q .1 .1 .1 .1 .0);
+      p-low = leb→le 2 (s .p) (q .1 .1 .1 .1 .1 .0);
+      p-high = leb→le (s .p) 8 (q .1 .1 .1 .1 .1 .1 .0);
+    }
 
 -- ---- the function
 abbrev pub even? : System → Elem → Bool
@@ -80,20 +87,26 @@ module _ (s : System) (g : Lawful s) (v : ℕ) (ds : List Elem) where
     where
       q : All T (fullness s v ds)
       q = every-is (fullness s v ds) h
+
       odd-at : (k : ℕ) → k < length ds → ¬ (Even s (getD ds k 𝟘))
       odd-at k l = even-not (getD ds k 𝟘) (all-below (length ds) (λ k. not (even? s (getD ds k 𝟘))) (q .0) k l)
+
       apart : (i j : ℕ) → i < j → j < length ds → ¬ (SameClass s (suc v) (getD ds i 𝟘) (getD ds j 𝟘))
       apart i j l m = dvd-not s (pow s (s .β) (suc v)) (s .p ^ suc v) some-pow norm-pow (sub (getD ds i 𝟘) (getD ds j 𝟘))
           (all-below j (λ i. not (alike? s v (getD ds i 𝟘) (getD ds j 𝟘))) (all-below (length ds) (λ j. allBelow j (λ i. not (alike? s v (getD ds i 𝟘) (getD ds j 𝟘)))) (q .1 .0) j m) i l)
+
       odd : (d : Elem) → Has ds d → ¬ (Even s d)
       odd d m = subst (λ u. ¬ (Even s u)) (m .2 𝟘) (odd-at (m .0) (m .1))
+
       by : (i j : ℕ) → i < length ds → j < length ds → SameClass s (suc v) (getD ds i 𝟘) (getD ds j 𝟘) → Dec (i < j) → Dec (j < i) → i ≡ j
       by i j l m a (yes k) o = absurd (apart i j k m a)
       by i j l m a (no k) (yes o) = absurd (apart j i o l (mod-flip s (pow s (s .β) (suc v)) (getD ds i 𝟘) (getD ds j 𝟘) a))
       by i j l m a (no k) (no o) = omega arith
+
       one : (d e : Elem) → Has ds d → Has ds e → SameClass s (suc v) d e → d ≡ e
       one d e m n a =
           sym (m .2 𝟘) ∙ ap (λ k. getD ds k 𝟘) (by (m .0) (n .0) (m .1) (n .1) (subst (λ u. SameClass s (suc v) u (getD ds (n .0) 𝟘)) (sym (m .2 𝟘)) (subst (SameClass s (suc v) d) (sym (n .2 𝟘)) a)) (decLt (m .0) (n .0)) (decLt (n .0) (m .0))) ∙ n .2 𝟘
+
       some : (z : Elem) → ¬ (Even s z) → (d : Elem) × Has ds d × SameClass s (suc v) z d
       some z o =
           let r = full-from-count s g v (length ds) (λ k. getD ds k 𝟘) odd-at apart (eqb→eq (length ds) ((s .p - 1) * s .p ^ v) (q .1 .1 .0)) z o in
@@ -117,6 +130,7 @@ module _ (s : System) (g : Lawful s) (v : ℕ) (ds : List Elem) where
       where
         quotient : (d : Elem) → Even s (sub z d) → mul s (s .β) (over s (s .β) (s .p) (sub z d)) ≡ sub z d
         quotient d h = dvd-is s (s .β) (s .p) (sub z d) (even-from (sub z d) h)
+
         go : (b : Bool) → even? s z ≡ b → Step s (suc v) (Has ds) z (elim b [ true ↦ 𝟘 | false ↦ pick s v z ds ]) (over s (s .β) (s .p) (sub z (elim b [ true ↦ 𝟘 | false ↦ pick s v z ds ])))
         go true e =
             let d : Even s z = (over s (s .β) (s .p) z, dvd-is s (s .β) (s .p) z (subst T (sym e) tt)) in
@@ -158,4 +172,4 @@ module _ (s : System) (g : Lawful s) (v : ℕ) (ds : List Elem) (full : Full s (
   shows-is z (e ∷ es) h =
       let q = every-is (not (eqE z 𝟘) ∷ eqE (digit s v ds z) e ∷ shows s v ds (next s v ds z) es ∷ []) h in
       subst (λ u. Expands s (suc v) (Has ds) z (u ∷ es)) (eqE-is (digit s v ds z) e (q .1 .0))
-        (step-expands s g v (Has ds) (full .odd) z (digit s v ds z) (next s v ds z) es (step-is s g v ds full z) (shows-is (next s v ds z) es (q .1 .1 .0)) (eqE-not z 𝟘 (q .0)))
+      (step-expands s g v (Has ds) (full .odd) z (digit s v ds z) (next s v ds z) es (step-is s g v ds full z) (shows-is (next s v ds z) es (q .1 .1 .0)) (eqE-not z 𝟘 (q .0)))

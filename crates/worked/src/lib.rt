@@ -4,5 +4,4 @@ ghost use Rattle.worked.specs.Worked.{WorkedCases};
 // Every verdict and expansion of the list holds.
 pub fn worked_cases()
     ensures { λ _. ⌜ WorkedCases ⌝ }
-{
-}
+{}

@@ -1,0 +1,4 @@
+pub mod Powers
+pub mod Listed
+pub mod Modulo
+pub mod Parts

@@ -1,0 +1,6 @@
+// Digits, their widths, and the step that recoding takes.
+pub mod classes;
+pub mod digit;
+pub mod residues;
+pub mod steps;
+pub mod width;

@@ -1,0 +1,3 @@
+// Recoding an element into its expansion.
+pub mod entry;
+pub mod recode;

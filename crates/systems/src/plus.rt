@@ -1,0 +1,64 @@
+// The system kp: θ² = θ − 2 and the base θ.
+
+ghost use Rattle.systems.specs.Named.{kp, thetaWidest, kp-lawful, theta-widths};
+use crate::theta::even;
+use crate::theta::over_theta;
+use numbers::Asks;
+use numbers::Coordinate;
+use numbers::Element;
+use numbers::Long;
+use numbers::NumberSystem;
+use numbers::Parameters;
+use numbers::Ruled;
+use numbers::Short;
+
+// The system kp.
+#[derive(Clone, Copy)]
+pub struct Kp;
+
+// Its numbers.
+pub impl Ruled for Kp as KpRuled {
+    const TRACE: i32 = 1;
+
+    const NORM: i32 = 2;
+
+    const BASE: Element<i32> = Element { x: 0, y: 1 };
+
+    const BASE_NORM: u32 = 2;
+
+    const WIDEST: u32 = 8;
+
+    ghost ring = { kp };
+
+    ghost widest = { thetaWidest };
+
+    ghost lawful = { kp-lawful };
+
+    ghost widths = { theta-widths };
+
+    fn parameters(&self) -> Parameters {
+        Parameters {
+            t: Self::TRACE,
+            n: Self::NORM,
+            base: Self::BASE,
+            p: Self::BASE_NORM,
+            widest: Self::WIDEST,
+        }
+    }
+}
+
+// Its answers, at every kind.
+pub impl<C: Coordinate> Asks<C> for Kp as KpAsks {
+    fn divides(&self, z: &Element<C>) -> bool {
+        even(*z)
+    }
+
+    fn quotient(&self, z: &Element<C>) -> Element<C> {
+        over_theta(self.parameters().t, *z)
+    }
+}
+
+// Its own kind is the long one.
+pub impl NumberSystem for Kp as KpSystem {
+    type Kind = i64;
+}
