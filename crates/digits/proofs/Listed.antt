@@ -1,11 +1,9 @@
 -- Digits of a list, by their places.
-use mathlib.Core.Path.{_≡_, refl, sym, ap, subst, _∙_}
+use mathlib.Core.Path.{_≡_, refl, sym, ap, _∙_}
 use mathlib.Core.List.{List, [], _∷_}
 use Prim.Native.Nat.{ℕ, zero, suc, _<_}
 use native.Mathlib.Omega.{arith}
 use lib.ListN.{length, getD}
-use Rattle.std.specs.shelf.Lists.{Has}
-use Rattle.std.proofs.shelf.Elements.{has-getD}
 use Rattle.ring.specs.Elem.{𝟘}
 use Rattle.digits.specs.Digits.{elemOf, elems}
 use Rattle.digits.specs.declared.digit.Digit.{Digit}
@@ -23,6 +21,3 @@ module _ (ds : List Digit) (d : Digit) (k : ℕ) (l : k < length ds) (is : d ≡
       at [] j h = absurd (omega arith)
       at (e ∷ es) zero h = refl
       at (e ∷ es) (suc j) h = at es j (omega arith)
-
-  pub held : Has (elems ds) (elemOf d)
-  held = subst (Has (elems ds)) elem-at (has-getD (elems ds) k 𝟘 (omega (arith, length-elems ds)))

@@ -3,12 +3,11 @@ ghost use mathlib.Core.Path.{_≡_};
 ghost use Prim.Native.Nat.{_^_};
 ghost use Rattle.std.specs.Options.{Cases as BySome};
 ghost use Rattle.std.specs.Orderings.{Decides};
-ghost use Rattle.std.specs.shelf.Lists.{Has};
 ghost use Rattle.ring.specs.Elem.{Below};
 ghost use Rattle.ring.specs.Class.{SameClass};
 ghost use Rattle.numbers.specs.Meaning.{short};
 ghost use Rattle.digits.specs.Digits.{AllOdd, elemOf, elems};
-ghost use Rattle.digits.specs.Stepping.{Unclassed};
+ghost use Rattle.digits.specs.Stepping.{FirstOf, Unclassed};
 use crate::digit::Digit;
 use crate::width::Width;
 use numbers::Asks;
@@ -39,7 +38,7 @@ pub fn digit_of<S: Asks<i32>>(
     a: Element<i32>,
 ) -> Option<Digit>
     requires { ⌜ Below (2 ^ 24) (short a) ⌝ }
-    ensures { λ r. ⌜ BySome r (Unclassed (S·Ruled .ring) (width .places) (elems (now (digits .entry))) (short a)) (λ d. Has (elems (now (digits .entry))) (elemOf d) × SameClass (S·Ruled .ring) (width .places) (short a) (elemOf d)) ⌝ }
+    ensures { λ r. ⌜ BySome r (Unclassed (S·Ruled .ring) (width .places) (elems (now (digits .entry))) (short a)) (λ d. FirstOf (S·Ruled .ring) (width .places) (elems (now (digits .entry))) (short a) (elemOf d)) ⌝ }
 {
     for d in digits {
         if same_class(system, width, a, *d) {

@@ -5,12 +5,17 @@ use Rattle.std.proofs.shelf.Tests.{both-ways}
 use Rattle.ring.specs.Elem.{𝟘}
 use Rattle.ring.specs.Class.{SameClass}
 use Rattle.numbers.specs.Meaning.{short}
-use Rattle.digits.proofs.Listed.{length-elems, elem-at, held}
+use Rattle.digits.proofs.Listed.{length-elems, elem-at}
 use Rattle.digits.proofs.classes.digit_of.Needs as need
 
 pub returns-then-same-class : need.returns-then-same-class
-returns-then-same-class g c =
-    (held (c .args .digits .now) (c .d-item .result) (c .loop-d .d-index) (c .loop-d-test .taken) (c .d-item .is), c .same-class .ensures .0 (c .if-same-class .taken))
+returns-then-same-class g c = (
+  c .loop-d .d-index,
+  omega (arith, c .loop-d-test .taken, length-elems (c .args .digits .now)),
+  elem-at (c .args .digits .now) (c .d-item .result) (c .loop-d .d-index) (c .loop-d-test .taken) (c .d-item .is),
+  c .same-class .ensures .0 (c .if-same-class .taken),
+  c .loop-d .inv,
+)
 
 pub loop-d-again : need.loop-d-again
 loop-d-again g c =

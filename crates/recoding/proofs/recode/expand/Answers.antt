@@ -31,7 +31,7 @@ loop-k-again g c =
     let here : c .loop-k .k < length (c .loop-k .entries) = omega (arith, c .loop-k-test .taken, c .loop-k .kept .entries) in
     let step = c .in-Some .ensures tt in (
       subst (λ es. Leads v s (c .args .width .places) ds z es (meaning v (c .in-Some .remainder))) (sym (take-more-set (c .loop-k .entries) (c .loop-k .k) (record { digit = c .in-Some .digit; remainder = c .in-Some .remainder }) here))
-          (leads-more v s (c .args .width .places) ds z (take (c .loop-k .k) (c .loop-k .entries)) (meaning v (c .loop-k .rest)) (record { digit = c .in-Some .digit; remainder = c .in-Some .remainder }) (c .loop-k .inv .0) (λ e. both-ways (c .is-zero .result) (c .if-is-zero .left) (c .is-zero .ensures .1 e)) (step .1)),
+          (leads-more v s (c .args .width .places) ds z (take (c .loop-k .k) (c .loop-k .entries)) (meaning v (c .loop-k .rest)) (record { digit = c .in-Some .digit; remainder = c .in-Some .remainder }) (c .loop-k .inv .0) (λ e. both-ways (c .is-zero .result) (c .if-is-zero .left) (c .is-zero .ensures .1 e)) (step .step)),
       drop-more-set (c .args .entries .now) (c .loop-k .entries) (c .loop-k .k) (record { digit = c .in-Some .digit; remainder = c .in-Some .remainder }) (c .loop-k .inv .1),
     )
 
