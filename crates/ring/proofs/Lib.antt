@@ -6,6 +6,7 @@ pub mod Norms
 pub mod Division
 pub mod Expansions
 pub mod Steps
+pub mod Sums
 pub mod Bound
 pub mod Pigeonhole
 pub mod Trails

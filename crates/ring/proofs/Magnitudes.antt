@@ -99,3 +99,16 @@ module _ (s : System) (g : Lawful s) where
 
   pub difference : (L : ℕ) → 1024 ≤ L → (z d : Elem) → Within s L z → InRange d → Below (4 * L) (sub z d)
   difference L l z d h k = let c = coordinates L l z h in let a = abs-sub (z .x) (d .x) in let b = abs-sub (z .y) (d .y) in record { in-x = omega arith; in-y = omega arith }
+
+  small-root : (a : ℕ) → 3 * (a * a) ≤ 32 → a < 256
+  small-root a h = elim (decLt a 256) [ yes l ↦ l | no n ↦ absurd (let k : 256 ≤ a = omega arith in let m = mul-le-mul k k in omega arith) ]
+
+  -- the base of a lawful system is in the range of digits
+  pub base-in-range : InRange (s .β)
+  base-in-range =
+      let p = size-β s g in
+      let h = g .p-high in
+      record {
+        in-x = small-root (natAbs (s .β .x)) (let n = size-x (s .β) in omega arith);
+        in-y = small-root (natAbs (s .β .y)) (let n = size-y (s .β) in omega arith);
+      }

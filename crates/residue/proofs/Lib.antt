@@ -1,0 +1,3 @@
+pub mod Mods
+pub mod Roots
+pub mod Points
