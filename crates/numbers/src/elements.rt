@@ -4,6 +4,7 @@ ghost use mathlib.Core.Path.{_≡_};
 ghost use Prim.Native.Nat.{_*_};
 ghost use lib.IntN.{pos};
 ghost use lib.Signed.{_≤ℤ_};
+ghost use Rattle.std.specs.Options.{Cases as BySome};
 ghost use Rattle.std.specs.Orderings.{Decides};
 ghost use Rattle.ring.specs.Elem.{𝟘, Below, add, sub};
 ghost use Rattle.numbers.specs.Meaning.{meaning, short};
@@ -46,6 +47,16 @@ impl<C: Coordinate> Element<C> {
         Element {
             x: C::from_short(z.x),
             y: C::from_short(z.y),
+        }
+    }
+
+    // The element of long coordinates at this kind, if it may be loaded.
+    pub fn load(z: Element<i64>) -> Option<Self>
+        ensures { λ r. ⌜ BySome r (Below (C·Coordinate .loading) (short z) → ⊥) (λ e. Below (C·Coordinate .loading) (short z) × (meaning (C·Coordinate .value) e ≡ short z)) ⌝ }
+    {
+        match (C::load(z.x), C::load(z.y)) {
+            (Some(x), Some(y)) => Some(Element { x, y }),
+            _ => None,
         }
     }
 

@@ -4,6 +4,7 @@ ghost use mathlib.Core.Path.{_≡_};
 ghost use Prim.Native.Nat.{ℕ, _*_, _^_, _<_, _≤_};
 ghost use lib.IntN.{ℤ, pos, natAbs, _+ℤ_, _-ℤ_};
 ghost use lib.Signed.{_≤ℤ_, quotZ, remZ};
+ghost use Rattle.std.specs.Options.{Cases as BySome};
 ghost use Rattle.std.specs.Orderings.{Decides};
 ghost use Rattle.numbers.specs.Kinds.{shortLoading, shortWorking, longLoading, longWorking};
 
@@ -18,7 +19,7 @@ pub trait Coordinate: Copy {
 
     law apart: { (a b : Self) → value a ≡ value b → a ≡ b };
 
-    law limits: { (1024 ≤ loading) × (16 * loading ≤ working) × (2 ^ 28 ≤ working) };
+    law limits: { (1024 ≤ loading) × (16 * loading ≤ working) × (2 ^ 28 ≤ working) × (loading ≤ 2 ^ 56) };
 
     // The coordinate that stands for a short number.
     fn from_short(v: i32) -> Self
@@ -35,6 +36,10 @@ pub trait Coordinate: Copy {
     // Whether the coordinate may be worked with.
     fn works(self) -> bool
         ensures { λ r. ⌜ Decides r (natAbs (value self) < working) ⌝ };
+
+    // The coordinate that stands for a long number, if that may be loaded.
+    fn load(v: i64) -> Option<Self>
+        ensures { λ r. ⌜ BySome r (natAbs v < loading → ⊥) (λ c. (natAbs v < loading) × (value c ≡ v)) ⌝ };
 
     // The sum.
     fn plus(self, other: Self) -> Self
@@ -87,6 +92,13 @@ pub impl Coordinate for i32 as Short {
         -SHORT_WORKING < self && self < SHORT_WORKING
     }
 
+    fn load(v: i64) -> Option<i32> {
+        if -(SHORT_LOADING as i64) < v && v < SHORT_LOADING as i64 {
+            return Some(v as i32);
+        }
+        None
+    }
+
     fn plus(self, other: i32) -> i32 {
         self + other
     }
@@ -132,6 +144,10 @@ pub impl Coordinate for i64 as Long {
 
     fn works(self) -> bool {
         -LONG_WORKING < self && self < LONG_WORKING
+    }
+
+    fn load(v: i64) -> Option<i64> {
+        if v.loads() { Some(v) } else { None }
     }
 
     fn plus(self, other: i64) -> i64 {
