@@ -1,0 +1,3 @@
+pub mod Sink
+pub mod Sieve
+pub mod Nested

@@ -1,0 +1,3 @@
+pub mod Remainders
+pub mod Next
+pub mod Bounds
