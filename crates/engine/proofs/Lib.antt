@@ -1,2 +1,3 @@
 pub mod Free
 pub mod Acting
+pub mod Bits

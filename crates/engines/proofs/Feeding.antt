@@ -3,30 +3,14 @@ use mathlib.Core.Path.{_≡_, sym, ap, _∙_}
 use mathlib.Core.List.{List, [], _∷_, _++_}
 use Prim.Native.Nat.{ℕ, _+_}
 use native.Mathlib.Numerals.{add-one}
-use native.Mathlib.Omega.{arith}
 use lib.ListN.{length}
-use mir.Val.{SFits, toZ, ofZ}
-use mir.Syntax.{w32}
-use Rattle.std.proofs.shelf.Signed.{ints, toZ-ofZ}
 use Rattle.ring.specs.Elem.{Elem, add}
 use Rattle.ring.specs.System.{System, mul, pow}
-use Rattle.ring.specs.Class.{InRange}
 use Rattle.ring.specs.Expansion.{weighted}
-use Rattle.ring.proofs.Elements.{same}
 use Rattle.ring.proofs.Sums.{weighted-push}
-use Rattle.engine.specs.Meaning.{Meaning, LawfulMeaning, act, elem}
+use Rattle.engine.specs.Meaning.{Meaning, LawfulMeaning, act}
 use Rattle.engine.specs.Rings.{Over}
 use Rattle.engine.proofs.Acting.{step-law}
-
--- coordinates as 32 bits give them back: in range they are the same
-abbrev pub bits : Elem → Elem
-bits a = elem (toZ w32 (ofZ w32 (a .x))) (toZ w32 (ofZ w32 (a .y)))
-
-pub through-bits : (a : Elem) → InRange a → bits a ≡ a
-through-bits a h =
-    let fx : SFits w32 (a .x) = omega (arith, ints, h .in-x) in
-    let fy : SFits w32 (a .y) = omega (arith, ints, h .in-y) in
-    same (bits a) a (toZ-ofZ w32 (a .x) fx) (toZ-ofZ w32 (a .y) fy)
 
 module _ {C : Type 0} (m : Meaning C) (law : LawfulMeaning m) (s : System) (over : Over s m) (ds : List Elem) (k : ℕ) (long : length ds ≡ k) (total current : C)
     (t : total ≡ act m (weighted s ds) (m .start)) (u : current ≡ act m (pow s (s .β) k) (m .start)) where

@@ -7,6 +7,13 @@ use crate::width::Width;
 const WIDEST: u32 = 8;
 
 impl Width {
+    // The width 1.
+    pub fn narrowest() -> Width
+        ensures { λ r. ⌜ r .places ≡ 1 ⌝ }
+    {
+        Width { places: 1 }
+    }
+
     // The width, if it is from 1 to 8.
     pub fn new(places: u32) -> Option<Width>
         ensures { λ r. ⌜ BySome r ((1 ≤ places) × (places ≤ 8) → ⊥) (λ w. w .places ≡ places) ⌝ }

@@ -1,29 +1,24 @@
 use mathlib.Core.Path.{_≡_, refl, sym, ap, subst, _∙_}
-use Prim.Native.Nat.{_+_, _<_}
+use Prim.Native.Nat.{_+_}
 use native.Mathlib.Omega.{arith}
-use borrow.Author.Needs.{needs}
-use lib.IntN.{ℤ}
-use lib.ListN.{length, take, getD}
+use lib.ListN.{length, take}
 use mathlib.Core.List.{[], _∷_, _++_}
-use mir.Val.{SFits, toZ, ofZ}
-use mir.Syntax.{w32}
 use Rattle.std.proofs.shelf.Lists.{take-more, take-all, length-take-le}
-use Rattle.std.proofs.shelf.Signed.{ints, toZ-ofZ}
-use Rattle.ring.specs.Elem.{Elem, Below, 𝟘}
-use Rattle.ring.specs.System.{System, Lawful, pow}
+use Rattle.ring.specs.Elem.{𝟘}
+use Rattle.ring.specs.System.{System, Lawful}
 use Rattle.ring.specs.Class.{InRange}
 use Rattle.ring.specs.Expansion.{weighted}
 use Rattle.ring.proofs.Elements.{same}
-use Rattle.ring.proofs.Sums.{weighted-push}
 use Rattle.ring.proofs.Magnitudes.{base-in-range}
-use Rattle.engine.specs.Meaning.{act, elem}
+use Rattle.engine.specs.Meaning.{act}
 use Rattle.engine.specs.Rings.{Over}
-use Rattle.engine.proofs.Acting.{act-zero, act-one, step-law}
+use Rattle.engine.proofs.Acting.{act-zero, act-one}
 use Rattle.numbers.specs.Meaning.{short, ruling}
 use Rattle.digits.specs.Digits.{elems, elemOf}
 use Rattle.digits.proofs.Listed.{length-elems, elem-at}
 use Rattle.numbers.specs.declared.rules.Parameters.{Parameters}
-use Rattle.engines.proofs.Feeding.{bits, through-bits, fed-total, fed-current}
+use Rattle.engine.proofs.Bits.{bits, through-bits}
+use Rattle.engines.proofs.Feeding.{fed-total, fed-current}
 use Rattle.engines.proofs.drive.Needs as need
 
 pub loop-d-holds : need.loop-d-holds

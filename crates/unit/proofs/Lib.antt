@@ -1,0 +1,4 @@
+pub mod Base
+pub mod Changes
+pub mod Sounds
+pub mod Answering
