@@ -163,6 +163,8 @@ fn kp_residue(rt: &LibcRuntime, engine: ResidueEngine) -> Result<(), AnyError> {
         Call::Put(-1, 0),
         Call::Check,
         at(281474976710656, 0),
+        at(281474976710655, 0),
+        Call::Abandon,
         at(0, 0),
         Call::Tick,
         at(9, 0),
