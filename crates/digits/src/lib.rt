@@ -1,4 +1,7 @@
 // Digits, their widths, verdicts, and the step that recoding takes.
+
+#![tactic(auto)]
+
 pub mod classes;
 pub mod digit;
 pub mod residues;

@@ -1,4 +1,7 @@
 // The interface of point engines, what an engine means, and how elements act on its points.
+
+#![tactic(auto)]
+
 ghost use Rattle.std.specs.Prelude.{◌≡◌, Decides};
 ghost use Rattle.ring.specs.Class.{InRange};
 ghost use Rattle.engine.specs.Meaning.{Meaning, LawfulMeaning, act, elem};

@@ -1,4 +1,7 @@
 // Feeds the expansion of 9 in kp into both engines, and prints their totals, and which engines are refused.
+
+#![tactic(auto)]
+
 ghost use Rattle.std.specs.Prelude.{◌≡◌};
 ghost use Rattle.ring.specs.Expansion.{weighted};
 ghost use Rattle.engine.specs.Meaning.{act};

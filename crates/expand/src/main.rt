@@ -1,4 +1,7 @@
 // Recodes one element in the system kp, at width 2 with the digits 1 and −1, and prints what that involves.
+
+#![tactic(auto)]
+
 ghost use Rattle.std.specs.Prelude.{◌≡◌, IfSome};
 ghost use Rattle.ring.specs.Elem.{Below, add};
 ghost use Rattle.ring.specs.System.{mul};

@@ -1,5 +1,7 @@
 // The first element, by norm, x and y, whose trail does not come to 0.
 
+#![tactic(auto)]
+
 mod first;
 mod shells;
 

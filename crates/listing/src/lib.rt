@@ -1,4 +1,7 @@
 // The lines of a listing, each written into a caller's buffer.
+
+#![tactic(auto)]
+
 ghost use Rattle.std.specs.Prelude.{◌≡◌, ◌+◌, ◌*◌, ◌<◌, ◌≤◌, length, pos};
 ghost use Rattle.std.specs.List.{AllByRecursion as All};
 ghost use Rattle.refusals.specs.Refusal.{number_of};

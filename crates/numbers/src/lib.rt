@@ -1,5 +1,7 @@
 // Elements with coordinates of two kinds, and what a number system answers about them.
 
+#![tactic(auto)]
+
 mod elements;
 mod kinds;
 mod norms;

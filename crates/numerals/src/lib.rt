@@ -1,4 +1,7 @@
 // Numerals: numbers as sheets and listings write them.
+
+#![tactic(auto)]
+
 ghost use Rattle.std.specs.Prelude.{◌≡◌, ℕ, ◌+◌, ◌^◌, ◌<◌, ◌≤◌, length, ℤ, pos, neg_ℤ, Decides, MatchOption, slice_index};
 ghost use Rattle.numerals.specs.Numeral.{most, hex_value, Counts, Reads, hex, hex_digit, written, ReadAsWritten, OneNumber, CountsAreRead};
 ghost use Rattle.numerals.specs.Overwrite.{overwrite};

@@ -1,4 +1,7 @@
 // Reads one sheet from standard input, and prints its listing.
+
+#![tactic(auto)]
+
 use anyhow::anyhow;
 use replies::sink::Sink;
 use replies::text::Text;

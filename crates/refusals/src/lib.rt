@@ -1,4 +1,7 @@
 // Why a call is refused: one closed list, by which every promise of the repository names a refusal.
+
+#![tactic(auto)]
+
 ghost use Rattle.std.specs.Prelude.{◌≡◌};
 ghost use Rattle.refusals.specs.Refusal.{number_of, word_of};
 

@@ -1,4 +1,7 @@
 // Makes lists of calls on new units over every system and both engines, and prints what each call answered and how the unit then stood.
+
+#![tactic(auto)]
+
 use digits::verdict::Verdict;
 use engine::{Point, PointEngine};
 use numbers::{Asks, Coordinate, Element, NumberSystem, Ruled};

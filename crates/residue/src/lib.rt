@@ -1,4 +1,7 @@
 // The residue engine: its points are (v,0) with v a residue modulo m, and θ multiplies by r.
+
+#![tactic(auto)]
+
 ghost use Rattle.std.specs.Prelude.{◌≡◌, ◌<◌, pos, int_rem};
 ghost use Rattle.engine.specs.Rings.{InRing};
 ghost use Rattle.residue.specs.Residue.{at_root, Modulus};

@@ -1,4 +1,7 @@
 // The mathematics of digit sets to a complex base. A function here computes nothing: its contract is a theorem, and the crate is proved only with it.
+
+#![tactic(auto)]
+
 ghost use Rattle.ring.specs.Algebra.{BaseCancels, NormLaws, RingLaws};
 ghost use Rattle.ring.specs.Bounds.{LengthBound, LengthFits, NormFalls, ReturnsSoon, StaysWithin};
 ghost use Rattle.ring.specs.Theorems.{BoxedTrailReturns, ClassesNumber, ExpansionBegins, FullByNumber, LeadAndPeriod, OneExpansion, OneLeadAndPeriod, OneVerdict, ReturnsAwayFromZero, SearchBound, TrailReachesZero};

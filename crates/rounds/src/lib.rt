@@ -1,5 +1,7 @@
 // Trails of a map on elements: whether one comes to an earlier element, and where it returns.
 
+#![tactic(auto)]
+
 mod cycles;
 mod dynamics;
 mod order;

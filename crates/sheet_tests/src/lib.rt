@@ -1,5 +1,7 @@
 // Examples of numerals, sheet lines and listing lines.
 
+#![tactic(auto)]
+
 #[cfg(test)]
 mod tests {
     use refusals::Refusal;

@@ -1,4 +1,7 @@
 // Prints the listings of the sheets that its arguments name, each behind a line with the name.
+
+#![tactic(auto)]
+
 use anyhow::anyhow;
 use replies::sink::Sink;
 use replies::text::Text;

@@ -1,5 +1,7 @@
 // The three number systems that are served, and an adapter to the short kind.
 
+#![tactic(auto)]
+
 mod adapter;
 mod choice;
 mod five;

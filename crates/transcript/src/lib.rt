@@ -1,4 +1,7 @@
 // A whole sheet and its whole listing.
+
+#![tactic(auto)]
+
 mod answering;
 mod following;
 mod opening;

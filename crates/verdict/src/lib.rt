@@ -1,5 +1,7 @@
 // The check of a list of digits: whether every element of the ring has an expansion over it.
 
+#![tactic(auto)]
+
 mod bounds;
 mod checks;
 pub mod recoding;

@@ -1,4 +1,7 @@
 // Prints the verdict on each set of standard input: a set to a line, as `kp 2 1,0 -1,0` for system, width and digits.
+
+#![tactic(auto)]
+
 ghost use Rattle.std.specs.Result.{MatchResult};
 
 use digits::verdict::Verdict;

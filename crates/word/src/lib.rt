@@ -1,4 +1,7 @@
 // The word engine: its points are pairs of 32-bit words, summed by exclusive or.
+
+#![tactic(auto)]
+
 ghost use Rattle.std.specs.Prelude.{◌^◌, ◌<◌};
 
 mod calls;
