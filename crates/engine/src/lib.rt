@@ -20,9 +20,9 @@ pub struct Point {
 pub trait PointEngine {
     ghost meaning: { Self → Meaning Point };
 
-    ghost totalOf: { Self → Point };
+    ghost total_of: { Self → Point };
 
-    ghost currentOf: { Self → Point };
+    ghost current_of: { Self → Point };
 
     // The t of θ² = tθ − n.
     fn t(&self) -> i32

@@ -17,28 +17,28 @@ returns-then-n-lt16 t c =
       after = ap (set s c.args.at) c.letter.ensures ∙ overwrite_one s c.args.at _ (omega arith) ∙ ap (overwrite s c.args.at) (sym one);
     }
 
-pub write-digits-end-requires : goal.write-digits-end-requires
-write-digits-end-requires t c = omega (arith, length_hex_step c.args.n (omega arith))
+pub write_digits-end-requires : goal.write_digits-end-requires
+write_digits-end-requires t c = omega (arith, length_hex_step c.args.n (omega arith))
 
 -- the place after the higher digits is within the buffer
-room : {t : _} (c : goal.After-letter-2 t) → c.write-digits-end.result < length c.args.out.now
-room c = omega (arith, length_hex_step c.args.n (omega arith), c.write-digits-end.ensures.end)
+room : {t : _} (c : goal.After-letter-2 t) → c.write_digits-end.result < length c.args.out.now
+room c = omega (arith, length_hex_step c.args.n (omega arith), c.write_digits-end.ensures.end)
 
 pub bounds-out-end : goal.bounds-out-end
 bounds-out-end t c = omega (arith, room c)
 
-pub overflow-add-result-2 : goal.overflow-add-result-2
-overflow-add-result-2 t c = omega (arith, room c, c.well-formed)
+pub overflow_add-result-2 : goal.overflow_add-result-2
+overflow_add-result-2 t c = omega (arith, room c, c.well_formed)
 
 pub returns : goal.returns
 returns t c =
     let s = c.args.out.now in
     let at = c.args.at in
     let xs = hex (c.args.n / 16) in
-    let end = c.write-digits-end.ensures.end in
+    let end = c.write_digits-end.ensures.end in
     let step = hex_step c.args.n (omega arith) in
     let inside : at + length xs < length s = omega (arith, room c) in
     record {
       end = omega (arith, length_hex_step c.args.n (omega arith));
-      after = (λ i. set (c.write-digits-end.ensures.after i) (end i) (c.letter-2.ensures i)) ∙ overwrite_more s at xs _ inside ∙ ap (overwrite s at) (sym step);
+      after = (λ i. set (c.write_digits-end.ensures.after i) (end i) (c.letter-2.ensures i)) ∙ overwrite_more s at xs _ inside ∙ ap (overwrite s at) (sym step);
     }

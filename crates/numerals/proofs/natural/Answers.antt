@@ -7,19 +7,19 @@ use Rattle.numerals.proofs.Digits.{under_lt, value_more, under_more, no_digit, s
 use Rattle.numerals.proofs.natural.Goals as goal
 use Rattle.numerals.proofs.natural.Goals.{In-Some}
 
-pub returns-in-default : goal.returns-in-default
-returns-in-default c n p = no_digit c.args.bs.now c.loop-b.b-index (omega arith) c.in-default.ensures p.0
+pub returns-in_default : goal.returns-in_default
+returns-in_default c n p = no_digit c.args.bs.now c.loop-b.b-index (omega arith) c.in_default.ensures p.0
 
 small : (c : goal.In-Some) → c.loop-b.n < 16 ^ most
 small c =
     let b = under_lt (take c.loop-b.b-index c.args.bs.now) (short c.args.bs.now c.loop-b.b-index (omega arith) (omega arith)) c.loop-b.invariant.1 in
     omega arith
 
-pub overflow-mul-n : goal.overflow-mul-n
-overflow-mul-n c = omega (arith, small c)
+pub overflow_mul-n : goal.overflow_mul-n
+overflow_mul-n c = omega (arith, small c)
 
-pub overflow-add-n : goal.overflow-add-n
-overflow-add-n c = omega (arith, small (goal.at.overflow-add-n c).In-Some, c.in-Some.ensures)
+pub overflow_add-n : goal.overflow_add-n
+overflow_add-n c = omega (arith, small (goal.at.overflow_add-n c).In-Some, c.in-Some.ensures)
 
 pub loop-b-preserved : goal.loop-b-preserved
 loop-b-preserved c =
@@ -35,10 +35,10 @@ returns c =
     let all = take_all c.loop-b.b-index bs (omega arith) in
     let u = subst (λ l. AllBelowBase 16 (map hex_value l)) all c.loop-b.invariant.1 in (
       record {
-        some = omega (arith, eqb-false (length bs) 0 (sym c.is-empty.ensures ∙ c.if-is-empty.false));
+        some = omega (arith, eqb-false (length bs) 0 (sym c.is_empty.ensures ∙ c.if-is_empty.false));
         few = omega arith;
         digits = u;
-        lean = lean_of bs (λ z. clash (c.if-needless-zero.ensures.1 z));
+        lean = lean_of bs (λ z. clash (c.if-needless_zero.ensures.1 z));
       },
       c.loop-b.invariant.0 ∙ ap value all,
     )

@@ -11,5 +11,5 @@ returns c =
     let k : at + length t - at ≡ length t = omega arith in
     record {
       end = refl;
-      after = ap (λ l. take at s ++ (l ++ drop (at + length t - at) (drop at s))) c.copy-from-slice.ensures.after ∙ ap (λ l. take at s ++ (t ++ l)) (ap (λ n. drop n (drop at s)) k ∙ drop-drop (length t) at s);
+      after = ap (λ l. take at s ++ (l ++ drop (at + length t - at) (drop at s))) c.copy_from_slice.ensures.after ∙ ap (λ l. take at s ++ (t ++ l)) (ap (λ n. drop n (drop at s)) k ∙ drop-drop (length t) at s);
     }

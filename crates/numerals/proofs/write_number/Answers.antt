@@ -10,13 +10,13 @@ returns c =
     let at = c.args.at in
     let x = c.args.x in
     let same = to_z-of_z w64 x c.ranges.x in
-    let mag : c.unsigned-abs.result ≡ nat_abs x = c.unsigned-abs.ensures.value ∙ ap nat_abs same in
+    let mag : c.unsigned_abs.result ≡ nat_abs x = c.unsigned_abs.ensures.value ∙ ap nat_abs same in
     let sg : Signs s at c.if-x-lt0.out c.if-x-lt0.start x =
     elim c.if-x-lt0.branch [
-      | then-x-lt0 w ↦ record { sign = 45 ∷ []; out_is = w.out_is ∙ w.write-bytes-start.ensures.after; start_is = w.start-is ∙ w.write-bytes-start.ensures.end; whole = sym (written_minus x _ same w.if-x-lt0.true) }
-      | else-x-lt0 w ↦ record { sign = []; out_is = w.out_is ∙ sym (overwrite_none s at); start_is = w.start-is ∙ sym (add-zero at); whole = sym (written_bare x _ same w.if-x-lt0.false) }
+      | then-x-lt0 w ↦ record { sign = 45 ∷ []; out_is = w.out-is ∙ w.write_bytes-start.ensures.after; start_is = w.start-is ∙ w.write_bytes-start.ensures.end; whole = sym (written_minus x _ same w.if-x-lt0.true) }
+      | else-x-lt0 w ↦ record { sign = []; out_is = w.out-is ∙ sym (overwrite_none s at); start_is = w.start-is ∙ sym (add-zero at); whole = sym (written_bare x _ same w.if-x-lt0.false) }
     ] in
     record {
-      end = signed_end s at _ _ x sg _ _ mag c.write-digits.ensures.end;
-      after = signed_after s at _ _ x sg _ c.write-digits.result _ mag c.write-digits.ensures.after c.requires;
+      end = signed_end s at _ _ x sg _ _ mag c.write_digits.ensures.end;
+      after = signed_after s at _ _ x sg _ c.write_digits.result _ mag c.write_digits.ensures.after c.requires;
     }

@@ -15,8 +15,8 @@ more g c =
     let e = ap (λ (s : System). s.p) c.parameters-p.ensures.ruled in
     ap (λ (k : ℕ). c.loop-k.all * k) e ∙ ap (λ (k : ℕ). k * p) c.loop-k.invariant ∙ mul_comm (p ^ c.loop-k.k) p ∙ sym (pow-succ' p c.loop-k.k) ∙ ap (λ (k : ℕ). p ^ k) (sym (add-one c.loop-k.k))
 
-pub overflow-mul-all : goal.overflow-mul-all
-overflow-mul-all g c =
+pub overflow_mul-all : goal.overflow_mul-all
+overflow_mul-all g c =
     let s = power_small g.S.Ruled.ring.p (c.loop-k.k + 1) g.S.Ruled.lawful.p_low g.S.Ruled.lawful.p_high (omega (arith, c.loop-k-test.true, c.places-k-end.ensures.most)) in
     record { fits = omega (arith, s, more g c) }
 

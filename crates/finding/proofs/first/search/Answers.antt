@@ -42,7 +42,7 @@ loop-y-preserved g c =
     let t = c.loop-y-test.true in (
       c.loop-y.invariant.0,
       grind (arith, ints),
-      under_more (g.D.Dynamics.next d) (g.D.Dynamics.ring d) (g.D.Dynamics.lawful d) c.search.norm _ _ _ _ c.loop-x.invariant.1 c.loop-y.invariant.1 (to_z-of_z w32 _ (grind (arith, ints))) c.search.invariant.2 c.loop-x.invariant.2 c.loop-y.invariant.2 c.in-default.ensures,
+      under_more (g.D.Dynamics.next d) (g.D.Dynamics.ring d) (g.D.Dynamics.lawful d) c.search.norm _ _ _ _ c.loop-x.invariant.1 c.loop-y.invariant.1 (to_z-of_z w32 _ (grind (arith, ints))) c.search.invariant.2 c.loop-x.invariant.2 c.loop-y.invariant.2 c.in_default.ensures,
     )
 
 pub loop-x-preserved : goal.loop-x-preserved
@@ -63,9 +63,9 @@ search-preserved g c =
     let e = c.reach-c.ensures in
     let u = c.loop-x-test.false in (
       c.loop-x.invariant.0,
-      c.cleared-to-clear.ensures.down,
+      c.cleared_to-clear.ensures.down,
       below_more (g.D.Dynamics.next d) (g.D.Dynamics.ring d) (g.D.Dynamics.lawful d) c.search.norm c.reach-c.result e.low e.bounds _ _ c.loop-x.invariant.1 (grind (arith, ints)) c.search.invariant.2 c.loop-x.invariant.2,
-      c.cleared-to-clear.ensures.ends,
+      c.cleared_to-clear.ensures.ends,
     )
 
 pub returns-in-Cycles : goal.returns-in-Cycles

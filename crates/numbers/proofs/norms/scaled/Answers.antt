@@ -6,8 +6,8 @@ use Rattle.numbers.proofs.norms.scaled.Goals as goal
 fits : (k a : ℤ) → nat_abs (k *ℤ a) ≤ 2 ^ 57 → SFits w64 (k *ℤ a)
 fits k a h = omega (arith, ints)
 
-pub overflow-mul-result : goal.overflow-mul-result
-overflow-mul-result c =
+pub overflow_mul-result : goal.overflow_mul-result
+overflow_mul-result c =
     let k = c.args.k in
     let a = c.args.a in
     let fk : SFits w32 k = omega (arith, ints) in

@@ -5,14 +5,14 @@ use Rattle.residue.specs.Residue.{at_root}
 use Rattle.residue.proofs.Roots.{fits}
 use Rattle.residue.proofs.calls.at_root.Goals as goal
 
-pub overflow-mul-result : goal.overflow-mul-result
-overflow-mul-result c =
+pub overflow_mul-result : goal.overflow_mul-result
+overflow_mul-result c =
     let f = fits c.args.t c.args.n c.args.r c.requires.ring c.requires.low c.requires.high in
     let r : SFits w64 c.args.r = c.ranges.r in
     simp to_z-of_z f.0
 
-pub overflow-sub-result : goal.overflow-sub-result
-overflow-sub-result c =
+pub overflow_sub-result : goal.overflow_sub-result
+overflow_sub-result c =
     let f = fits c.args.t c.args.n c.args.r c.requires.ring c.requires.low c.requires.high in
     let t : SFits w64 c.args.t = c.ranges.t in
     let r : SFits w64 c.args.r = c.ranges.r in
@@ -20,8 +20,8 @@ overflow-sub-result c =
     let tr : SFits w64 (c.args.t *ℤ c.args.r) = f.1 in
     simp to_z-of_z f.2
 
-pub overflow-add-result : goal.overflow-add-result
-overflow-add-result c =
+pub overflow_add-result : goal.overflow_add-result
+overflow_add-result c =
     let f = fits c.args.t c.args.n c.args.r c.requires.ring c.requires.low c.requires.high in
     let t : SFits w64 c.args.t = c.ranges.t in
     let n : SFits w64 c.args.n = c.ranges.n in
@@ -31,8 +31,8 @@ overflow-add-result c =
     let d : SFits w64 (c.args.r *ℤ c.args.r -ℤ c.args.t *ℤ c.args.r) = f.2 in
     simp to_z-of_z f.3
 
-pub overflow-cast-result : goal.overflow-cast-result
-overflow-cast-result c =
+pub overflow_cast-result : goal.overflow_cast-result
+overflow_cast-result c =
     let f = fits c.args.t c.args.n c.args.r c.requires.ring c.requires.low c.requires.high in
     let t : SFits w64 c.args.t = c.ranges.t in
     let n : SFits w64 c.args.n = c.ranges.n in

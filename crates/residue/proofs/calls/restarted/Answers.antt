@@ -18,8 +18,8 @@ module _ {t t' n n' m m' r r' : ℤ} (et : t ≡ t') (en : n ≡ n') (em : m ≡
   same-meaning : {g g' : ℤ} → g ≡ g' → residue t n m r g ≡ residue t' n' m' r' g'
   same-meaning eg = λ i. residue (et i) (en i) (em i) (er i) (eg i)
 
-pub invariant-of-result : goal.invariant-of-result
-invariant-of-result c =
+pub invariant_of-result : goal.invariant_of-result
+invariant_of-result c =
     let a = c.args in
     let f = c.ranges in
     let root = c.requires.root in
@@ -27,13 +27,13 @@ invariant-of-result c =
     let en = signed a.n f.n (omega (arith, ints)) root.0.3 in
     let em = unsigned a.m f.m (omega (arith, ints)) in
     let er = unsigned a.r f.r root.1 in
-    let eg = unsigned a.g f.g root.3 in (
-      (omega (arith, ints), omega (arith, ints)),
-      (
-        (omega (arith, ints), omega (arith, ints), omega (arith, ints), omega (arith, ints)),
-        (same-root et en em er root.5, ((omega (arith, ints), omega (arith, ints), omega (arith, ints), omega (arith, ints)), tt)),
-      ),
-    )
+    let eg = unsigned a.g f.g root.3 in
+    record {
+      modulus = (omega (arith, ints), omega (arith, ints));
+      ring = (omega (arith, ints), omega (arith, ints), omega (arith, ints), omega (arith, ints));
+      root = same-root et en em er root.5;
+      residues = (omega (arith, ints), omega (arith, ints), omega (arith, ints), omega (arith, ints));
+    }
 
 pub returns : goal.returns
 returns c =

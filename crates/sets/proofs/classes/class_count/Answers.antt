@@ -9,8 +9,8 @@ counted p q m w e o l h =
     let d = ap (λ (k : ℕ). k / p) (h ∙ ap (λ (k : ℕ). p ^ k) f ∙ pow-succ' p (w - 1)) ∙ mul-div_cancel_left (p ^ (w - 1)) o in
     ap (λ (k : ℕ). m / k * (k - 1)) e ∙ ap (λ (k : ℕ). k * (p - 1)) d ∙ mul_comm (p ^ (w - 1)) (p - 1)
 
-pub overflow-mul-result : goal.overflow-mul-result
-overflow-mul-result g c =
+pub overflow_mul-result : goal.overflow_mul-result
+overflow_mul-result g c =
     let m = c.modulus.result in
     let p = c.parameters-p.result.p in
     let h : m / p * (p - 1) ≤ m = le_trans (mul-le-mul_left (m / p) (omega arith)) (div-mul-le_self m p) in

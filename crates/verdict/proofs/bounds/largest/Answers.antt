@@ -13,7 +13,7 @@ loop-d-preserved g c =
     let e = short c.element.result in
     let at = elem_at c.args.digits.now c.d-item.result c.loop-d.d-index c.loop-d-test.true c.d-item.is ∙ sym c.element.ensures.is in
     let small : size s e ≤ 260100 = digit_size s g.S.Ruled.lawful e c.element.ensures.ranged in
-    let n = c.norm-in.ensures in
+    let n = c.norm_in.ensures in
     let m = c.max-most.ensures in
     (omega arith, upto_more s c.loop-d.most c.max-most.result (elems c.args.digits.now) c.loop-d.d-index e (omega arith) at (omega arith) c.loop-d.invariant.1)
 

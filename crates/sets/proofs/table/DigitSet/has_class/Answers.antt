@@ -13,7 +13,7 @@ returns-in-Some g c =
     let w = c.args.self.now.width.places in
     let d = elem_of c.in-Some.field-0 in
     let f = c.in-Some.ensures in (
-      λ _. (d, subst (λ l. Has l d) c.as-slice.ensures (first_held s w (elems c.as-slice.result.now) (short c.element.result) d f), subst (λ z. SameClass s w z d) c.element.ensures.is f.3),
+      λ _. (d, subst (λ l. Has l d) c.as_slice.ensures (first_held s w (elems c.as_slice.result.now) (short c.element.result) d f), subst (λ z. SameClass s w z d) c.element.ensures.is f.3),
       λ _. refl,
     )
 
@@ -22,5 +22,5 @@ returns-in-None g c =
     let s = g.S.Ruled.ring in
     let w = c.args.self.now.width.places in (
       λ e. absurd (both_ways false refl e),
-      λ h. absurd (c.in-None.ensures h.0 (subst (λ l. Has l h.0) (sym c.as-slice.ensures) h.1) (subst (λ z. SameClass s w z h.0) (sym c.element.ensures.is) h.2)),
+      λ h. absurd (c.in-None.ensures h.0 (subst (λ l. Has l h.0) (sym c.as_slice.ensures) h.1) (subst (λ z. SameClass s w z h.0) (sym c.element.ensures.is) h.2)),
     )

@@ -8,12 +8,16 @@ use Rattle.sets.proofs.table.DigitSet.push.Goals as goal
 pub bounds-table-self : goal.bounds-table-self
 bounds-table-self c = omega (arith, number c.args.self.now, c.requires.room)
 
-pub invariant-of-self : goal.invariant-of-self
-invariant-of-self c =
+pub invariant_of-self : goal.invariant_of-self
+invariant_of-self c =
     let s = c.args.self.now in
     let d = c.args.digit in
     let l : s.count < 128 = omega (arith, number s, c.requires.room) in
-    (length-set s.table s.count d ∙ s.whole, (omega arith, (subst Different (sym (pushed s d l)) (different_push (held s) (elem_of d) s.once c.requires.other), tt)))
+    record {
+      whole = length-set s.table s.count d ∙ s.whole;
+      most = omega arith;
+      once = subst Different (sym (pushed s d l)) (different_push (held s) (elem_of d) s.once c.requires.other);
+    }
 
 pub returns : goal.returns
 returns c =

@@ -10,10 +10,10 @@ use Rattle.sets.proofs.Holding.{passed_on}
 use Rattle.sets.proofs.Distinct.{own_class}
 use Rattle.sets.proofs.table.DigitSet.put.Given as given
 use Rattle.sets.proofs.table.DigitSet.put.Goals as goal
-use Rattle.sets.proofs.table.DigitSet.put.Goals.{After-has-class}
+use Rattle.sets.proofs.table.DigitSet.put.Goals.{After-has_class}
 
 -- the element of the digit, and what the first two tests leave
-module _ (g : given.Over) (c : goal.After-has-class g) where
+module _ (g : given.Over) (c : goal.After-has_class g) where
   abbrev z : Elem
   z = record { x = c.args.x; y = c.args.y }
 
@@ -26,12 +26,12 @@ module _ (g : given.Over) (c : goal.After-has-class g) where
   odd : ¬ (Even g.S.Ruled.ring z)
   odd h = both_ways c.divides.result c.if-divides.false (c.divides.ensures.1 (subst (Even g.S.Ruled.ring) (sym (c.element.ensures.is ∙ is)) h))
 
-  new : c.has-class.result ≡ false → ¬ (Classed g.S.Ruled.ring c.args.self.now.width.places (Has (held c.args.self.now)) z)
-  new f h = both_ways c.has-class.result f (c.has-class.ensures.1 (subst (Classed g.S.Ruled.ring c.args.self.now.width.places (Has (held c.args.self.now))) (sym is) h))
+  new : c.has_class.result ≡ false → ¬ (Classed g.S.Ruled.ring c.args.self.now.width.places (Has (held c.args.self.now)) z)
+  new f h = both_ways c.has_class.result f (c.has_class.ensures.1 (subst (Classed g.S.Ruled.ring c.args.self.now.width.places (Has (held c.args.self.now))) (sym is) h))
 
-pub returns-in-default : goal.returns-in-default
+pub returns-in_default : goal.returns-in_default
 unfolding Unput
-returns-in-default g c = (inl (λ h. c.in-default.ensures (subst InRange (sym (passed_on c.args.x c.args.y c.ranges.x c.ranges.y)) h), refl), refl)
+returns-in_default g c = (inl (λ h. c.in_default.ensures (subst InRange (sym (passed_on c.args.x c.args.y c.ranges.x c.ranges.y)) h), refl), refl)
 
 pub returns-then-divides : goal.returns-then-divides
 unfolding Unput
@@ -39,26 +39,26 @@ returns-then-divides g c =
     let is = c.element.ensures.is ∙ c.in-Some.ensures ∙ passed_on c.args.x c.args.y c.ranges.x c.ranges.y in
     (inr (λ n. n (subst InRange is c.element.ensures.ranged), inl (subst (Even g.S.Ruled.ring) is (c.divides.ensures.0 c.if-divides.true), refl)), refl)
 
-pub returns-then-has-class : goal.returns-then-has-class
+pub returns-then-has_class : goal.returns-then-has_class
 unfolding Unput
-returns-then-has-class g c =
-    let a = (goal.at.returns-then-has-class g c).After-has-class in
-    (inr (ranged g a, inr (odd g a, inl (subst (Classed g.S.Ruled.ring c.args.self.now.width.places (Has (held c.args.self.now))) (is g a) (c.has-class.ensures.0 c.if-has-class.true), refl))), refl)
+returns-then-has_class g c =
+    let a = (goal.at.returns-then-has_class g c).After-has_class in
+    (inr (ranged g a, inr (odd g a, inl (subst (Classed g.S.Ruled.ring c.args.self.now.width.places (Has (held c.args.self.now))) (is g a) (c.has_class.ensures.0 c.if-has_class.true), refl))), refl)
 
 pub returns-then-len-eq-ROOM : goal.returns-then-len-eq-ROOM
 unfolding Unput
 returns-then-len-eq-ROOM g c =
-    let a = (goal.at.returns-then-len-eq-ROOM g c).After-has-class in
-    (inr (ranged g a, inr (odd g a, inr (new g a c.if-has-class.false, inl (omega (arith, c.len.ensures.is, c.if-len-eq-ROOM.true), refl)))), refl)
+    let a = (goal.at.returns-then-len-eq-ROOM g c).After-has_class in
+    (inr (ranged g a, inr (odd g a, inr (new g a c.if-has_class.false, inl (omega (arith, c.len.ensures.is, c.if-len-eq-ROOM.true), refl)))), refl)
 
 pub push-requires : goal.push-requires
 push-requires g c = record {
   room = omega (arith, c.len.ensures.is, c.len.ensures.most, c.if-len-eq-ROOM.false);
-  other = λ h. both_ways c.has-class.result c.if-has-class.false (c.has-class.ensures.1 (elem_of c.in-Some.digit, h, own_class g.S.Ruled.ring c.args.self.now.width.places (elem_of c.in-Some.digit)));
+  other = λ h. both_ways c.has_class.result c.if-has_class.false (c.has_class.ensures.1 (elem_of c.in-Some.digit, h, own_class g.S.Ruled.ring c.args.self.now.width.places (elem_of c.in-Some.digit)));
 }
 
 pub returns : goal.returns
 unfolding Puttable
 returns g c =
-    let a = (goal.at.returns g c).After-has-class in
-    ((ranged g a, (odd g a, (new g a c.if-has-class.false, (λ h. c.if-len-eq-ROOM.false (omega (arith, c.len.ensures.is, c.len.ensures.most)), tt)))), subst (λ e. Added c.args.self.now c.push.new.self e c.push.result) (is g a) c.push.ensures)
+    let a = (goal.at.returns g c).After-has_class in
+    ((ranged g a, (odd g a, (new g a c.if-has_class.false, (λ h. c.if-len-eq-ROOM.false (omega (arith, c.len.ensures.is, c.len.ensures.most)), tt)))), subst (λ e. Added c.args.self.now c.push.new.self e c.push.result) (is g a) c.push.ensures)

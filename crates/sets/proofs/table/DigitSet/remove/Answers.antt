@@ -27,12 +27,16 @@ loop-k-preserved c =
     let r = slide t (elems s.table) c.args.place k x c.loop-k.auto.k (omega (arith, s.whole, s.most, c.loop-k-test.true)) (omega (arith, s.whole, inv.0)) (sym (get_or-map elem_of t (k + 1) c.index-table-k.result 𝟘 (omega (arith, inv.0, s.most, c.loop-k-test.true)))) inv.1 inv.2 in
     (length-set t k x ∙ inv.0, r.0, r.1)
 
-pub invariant-of-self : goal.invariant-of-self
-invariant-of-self c =
+pub invariant_of-self : goal.invariant_of-self
+invariant_of-self c =
     let s = c.args.self.now in
     let inv = c.loop-k.invariant in
     let e : elems (take (s.count - 1) c.loop-k.table) ≡ remove (held s) c.args.place = moved s c.loop-k.table c.args.place (omega (arith, number s, c.requires)) inv.0 (λ n h. inv.1 n (omega (arith, c.loop-k-test.false))) in
-    (inv.0, (omega (arith, s.most), (subst Different (sym e) (different_removed (held s) c.args.place c.requires s.once), tt)))
+    record {
+      whole = inv.0;
+      most = omega (arith, s.most);
+      once = subst Different (sym e) (different_removed (held s) c.args.place c.requires s.once);
+    }
 
 pub returns : goal.returns
 returns c =
