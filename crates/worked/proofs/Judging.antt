@@ -15,7 +15,7 @@ use Rattle.ring.proofs.Bound.{search_bound}
 use Rattle.ring.proofs.Trails.{expansion_iff, steady, zero_stays, lead_period, never}
 use Rattle.ring.proofs.Magnitudes.{size_x, size_y}
 use Rattle.worked.specs.Worked.{Shown, Case, Right}
-use Rattle.worked.proofs.Tests.{every, every_is, every_from, all_below, all_below, eq_z, eq_z_refl, eq_e, eq_e_is, eq_e_not, all_in, all_in}
+use Rattle.worked.proofs.Tests.{every, every_is, every_from, all_below, each_below, eq_z, eq_z_refl, eq_e, eq_e_is, eq_e_not, all_in, each_in}
 use Rattle.worked.proofs.Walks.{rules, lawful_is, fullness, full_is, walk, walk_is, ends, ends_is, shows, shows_is}
 
 -- ---- the norm as a natural number that computes
@@ -98,7 +98,7 @@ cleared_is s g v ds full n D X h = abs_bound s g v ds full D small near
     q = every_is (cleared_at s v ds n D X) h
 
     small : (d : Elem) → Has ds d → abs_norm s d ≤ D
-    small d m = subst (λ u. abs_norm s u ≤ D) (m.2 𝟘) (leb→le (abs_norm s (get_or ds m.0 𝟘)) D (all_below (length ds) (λ k. leb (abs_norm s (get_or ds k 𝟘)) D) q.0 m.0 m.1))
+    small d m = subst (λ u. abs_norm s u ≤ D) (m.2 𝟘) (leb→le (abs_norm s (get_or ds m.0 𝟘)) D (each_below (length ds) (λ k. leb (abs_norm s (get_or ds k 𝟘)) D) q.0 m.0 m.1))
 
     inside : (K a N : ℕ) → 8 * D < (X + 1) * (X + 1) * K → 3 * (a * a) ≤ 4 * N → N * K ≤ 6 * D → a ≤ X
     inside K a N b l m = root (8 * D) K X a b (omega (arith, mul-le-mul_right K l))
@@ -106,7 +106,7 @@ cleared_is s g v ds full n D X h = abs_bound s g v ds full D small near
     near : (z : Elem) → abs_norm s z * (2 * s.p ^ suc v - 3) ≤ 6 * D → HasExpansion s (suc v) (Has ds) z
     near z l =
         let b = ltb→lt (8 * D) ((X + 1) * (X + 1) * (2 * s.p ^ suc v - 3)) q.1.0 in
-        ends_is s g v ds full n z (all_in X (ends s v ds n) q.1.1.0 z
+        ends_is s g v ds full n z (each_in X (ends s v ds n) q.1.1.0 z
         (inside (2 * s.p ^ suc v - 3) (nat_abs z.x) (abs_norm s z) b (abs_x s g z) l) (inside (2 * s.p ^ suc v - 3) (nat_abs z.y) (abs_norm s z) b (abs_y s g z) l))
 
 -- ---- barred
@@ -147,7 +147,7 @@ barred_is s g v ds full n first l p X h = record { none = none; earlier = before
     off = eq_e_not (f l) 𝟘 q.1.1.0
 
     apart : (a b : ℕ) → a < b → b < l + p → f a ≢ f b
-    apart a b i j = eq_e_not (f a) (f b) (all_below b (λ a. not (eq_e (f a) (f b))) (all_below (l + p) (λ b. all_below b (λ a. not (eq_e (f a) (f b)))) q.1.1.1.0 b j) a i)
+    apart a b i j = eq_e_not (f a) (f b) (each_below b (λ a. not (eq_e (f a) (f b))) (each_below (l + p) (λ b. all_below b (λ a. not (eq_e (f a) (f b)))) q.1.1.1.0 b j) a i)
 
     round : LeadPeriod f l (l + p - l)
     round = lead_period f (steady s g v (Has ds) full f t) l (l + p) (omega (arith, some)) back apart
@@ -163,7 +163,7 @@ barred_is s g v ds full n first l p X h = record { none = none; earlier = before
     inside a N M i j k = root (4 * M) 3 X a k (omega arith)
 
     before : (z : Elem) → Before s z first → HasExpansion s (suc v) (Has ds) z
-    before z b = by (before? s z first) (before_from s z first b) (all_in X (earlier s v ds n first) q.1.1.1.1.1.0 z (inside (nat_abs z.x) (abs_norm s z) (abs_norm s first) (abs_x s g z) (at_most z b) far) (inside (nat_abs z.y) (abs_norm s z) (abs_norm s first) (abs_y s g z) (at_most z b) far))
+    before z b = by (before? s z first) (before_from s z first b) (each_in X (earlier s v ds n first) q.1.1.1.1.1.0 z (inside (nat_abs z.x) (abs_norm s z) (abs_norm s first) (abs_x s g z) (at_most z b) far) (inside (nat_abs z.y) (abs_norm s z) (abs_norm s first) (abs_y s g z) (at_most z b) far))
       where
         far : 4 * abs_norm s first < (X + 1) * (X + 1) * 3
         far = ltb→lt (4 * abs_norm s first) ((X + 1) * (X + 1) * 3) q.1.1.1.1.0

@@ -26,9 +26,9 @@ abbrev pub all_below : ℕ → (ℕ → Bool) → Bool
 all_below zero f = true
 all_below (suc n) f = elim (f n) [ true ↦ all_below n f | false ↦ false ]
 
-pub all_below : (n : ℕ) (f : ℕ → Bool) → T (all_below n f) → (i : ℕ) → i < n → T (f i)
-all_below zero f h i l = absurd (omega arith)
-all_below (suc n) f h i l = go (f n) refl h (all_below n f)
+pub each_below : (n : ℕ) (f : ℕ → Bool) → T (all_below n f) → (i : ℕ) → i < n → T (f i)
+each_below zero f h i l = absurd (omega arith)
+each_below (suc n) f h i l = go (f n) refl h (each_below n f)
   where
     go : (b : Bool) → f n ≡ b → T (elim b [ true ↦ all_below n f | false ↦ false ]) → (T (all_below n f) → (i : ℕ) → i < n → T (f i)) → T (f i)
     go true e h r = ⊎_elim (λ k. r h i k) (λ k. subst T (sym (ap f k ∙ e)) tt) (below i n l)
@@ -79,12 +79,12 @@ offset : (X : ℕ) (a : ℤ) → nat_abs a ≤ X → (i : ℕ) × (i < 2 * X + 1
 offset X (pos n) h = (X + n, omega arith, omega (arith, ints))
 offset X (negsuc n) h = (X - suc n, omega arith, omega (arith, ints))
 
-pub all_in : (X : ℕ) (f : Elem → Bool) → T (all_in X f) → (z : Elem) → nat_abs z.x ≤ X → nat_abs z.y ≤ X → T (f z)
-all_in X f h z k l =
+pub each_in : (X : ℕ) (f : Elem → Bool) → T (all_in X f) → (z : Elem) → nat_abs z.x ≤ X → nat_abs z.y ≤ X → T (f z)
+each_in X f h z k l =
     let i = offset X z.x k in
     let j = offset X z.y l in
     subst (λ u. T (f u)) (same (place X i.0 j.0) z i.2 j.2)
-    (all_below (2 * X + 1) (λ b. f (place X i.0 b)) (all_below (2 * X + 1) (λ a. all_below (2 * X + 1) (λ b. f (place X a b))) h i.0 i.1) j.0 j.1)
+    (each_below (2 * X + 1) (λ b. f (place X i.0 b)) (each_below (2 * X + 1) (λ a. all_below (2 * X + 1) (λ b. f (place X a b))) h i.0 i.1) j.0 j.1)
 
 -- ---- division by b, whose norm is m
 abbrev pub bar : System → Elem → Elem

@@ -16,7 +16,7 @@ use Rattle.ring.proofs.Steps.{step_expands}
 use Rattle.ring.proofs.Bound.{power, has_step}
 use Rattle.ring.proofs.Classes.{mod_flip}
 use Rattle.ring.proofs.Counting.{full_from_count}
-use Rattle.worked.proofs.Tests.{every, every_is, all_below, all_below, eq_z, eq_z_is, eq_e, eq_e_is, eq_e_not, over, dvd, dvd_is, dvd_from, dvd_not}
+use Rattle.worked.proofs.Tests.{every, every_is, all_below, each_below, eq_z, eq_z_is, eq_e, eq_e_is, eq_e_not, over, dvd, dvd_is, dvd_from, dvd_not}
 
 -- ---- the rules of a system
 abbrev pub rules : System → List Bool
@@ -83,11 +83,11 @@ module _ (s : System) (g : Lawful s) (v : ℕ) (ds : List Elem) where
       q = every_is (fullness s v ds) h
 
       odd_at : (k : ℕ) → k < length ds → ¬ (Even s (get_or ds k 𝟘))
-      odd_at k l = even_not (get_or ds k 𝟘) (all_below (length ds) (λ k. not (even? s (get_or ds k 𝟘))) q.0 k l)
+      odd_at k l = even_not (get_or ds k 𝟘) (each_below (length ds) (λ k. not (even? s (get_or ds k 𝟘))) q.0 k l)
 
       apart : (i j : ℕ) → i < j → j < length ds → ¬ (SameClass s (suc v) (get_or ds i 𝟘) (get_or ds j 𝟘))
       apart i j l m = dvd_not s (pow s s.β (suc v)) (s.p ^ suc v) some_pow norm_pow (sub (get_or ds i 𝟘) (get_or ds j 𝟘))
-          (all_below j (λ i. not (alike? s v (get_or ds i 𝟘) (get_or ds j 𝟘))) (all_below (length ds) (λ j. all_below j (λ i. not (alike? s v (get_or ds i 𝟘) (get_or ds j 𝟘)))) q.1.0 j m) i l)
+          (each_below j (λ i. not (alike? s v (get_or ds i 𝟘) (get_or ds j 𝟘))) (each_below (length ds) (λ j. all_below j (λ i. not (alike? s v (get_or ds i 𝟘) (get_or ds j 𝟘)))) q.1.0 j m) i l)
 
       odd : (d : Elem) → Has ds d → ¬ (Even s d)
       odd d m = subst (λ u. ¬ (Even s u)) (m.2 𝟘) (odd_at m.0 m.1)

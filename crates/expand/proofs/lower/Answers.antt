@@ -6,7 +6,7 @@ use Rattle.expand.proofs.lower.Goals as goal
 
 pub returns : goal.returns
 returns g c =
-    let e = c.from-short-e.ensures ∙ c.element.ensures.is in
+    let e = c.from_short-e.ensures ∙ c.element.ensures.is in
     let ex = ap (λ (z : Elem). z.x) e in
     let ey = ap (λ (z : Elem). z.y) e in
     let a = c.plus.ensures in

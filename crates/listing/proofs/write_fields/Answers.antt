@@ -14,12 +14,12 @@ pub bounds-out-end : goal.bounds-out-end
 bounds-out-end c =
     omega (arith, c.requires, c.loop-x.invariant.end, fields_room c.args.numbers.now c.loop-x.x-index c.loop-x-test.true)
 
-pub overflow-add-end : goal.overflow-add-end
-overflow-add-end c =
-    omega (arith, c.requires, c.well-formed, c.loop-x.invariant.end, fields_room c.args.numbers.now c.loop-x.x-index c.loop-x-test.true)
+pub overflow_add-end : goal.overflow_add-end
+overflow_add-end c =
+    omega (arith, c.requires, c.well_formed, c.loop-x.invariant.end, fields_room c.args.numbers.now c.loop-x.x-index c.loop-x-test.true)
 
-pub write-number-end-requires : goal.write-number-end-requires
-write-number-end-requires c =
+pub write_number-end-requires : goal.write_number-end-requires
+write_number-end-requires c =
     let x = get_or c.args.numbers.now c.loop-x.x-index (pos 0) in
     let f : SFits w64 x = search rules in
     omega (arith, c.requires, c.loop-x.invariant.end, fields_room c.args.numbers.now c.loop-x.x-index c.loop-x-test.true, length-set c.loop-x.out c.loop-x.end 44, ap (λ z. length (written z)) (to_z-of_z w64 x f))
@@ -36,8 +36,8 @@ loop-x-preserved c =
     let long = length_push front 44 in
     let room = fields_room numbers i lt in
     let b = wrote_byte _ _ _ _ _ c.loop-x.invariant 44 (omega (arith, c.requires)) in
-    subst (λ l. Wrote c.args.out.now c.args.at l c.write-number-end.new.out c.write-number-end.result) (sym (fields_more numbers i lt))
-    (wrote_more _ _ _ _ _ b (written x) _ _ (c.write-number-end.ensures.after ∙ ap (λ z. overwrite (set c.loop-x.out c.loop-x.end 44) (c.loop-x.end + 1) (written z)) same) (c.write-number-end.ensures.end ∙ ap (λ z. c.loop-x.end + 1 + length (written z)) same) (omega (arith, c.requires)))
+    subst (λ l. Wrote c.args.out.now c.args.at l c.write_number-end.new.out c.write_number-end.result) (sym (fields_more numbers i lt))
+    (wrote_more _ _ _ _ _ b (written x) _ _ (c.write_number-end.ensures.after ∙ ap (λ z. overwrite (set c.loop-x.out c.loop-x.end 44) (c.loop-x.end + 1) (written z)) same) (c.write_number-end.ensures.end ∙ ap (λ z. c.loop-x.end + 1 + length (written z)) same) (omega (arith, c.requires)))
 
 pub returns : goal.returns
 returns c =
