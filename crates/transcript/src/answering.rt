@@ -22,7 +22,7 @@ fn answer_call<S: NumberSystem, K: Sink>(
     call: Call,
     out: &mut K,
 )
-    ensures { Serves K.Sink.lost K.Sink.written (setting S.Ruled.ring S.Ruled.widest Kind-as-Coordinate.loading Kind-as-Coordinate.working) (view Kind-as-Coordinate.value unit.old) (view Kind-as-Coordinate.value unit.new) out.old out.new (λ m h g text. Answers (setting S.Ruled.ring S.Ruled.widest Kind-as-Coordinate.loading Kind-as-Coordinate.working) m number call h g text) }
+    ensures { Serves K.Sink.lost K.Sink.written (setting S.Ruled.ring S.Ruled.widest S.Kind.Coordinate.loading S.Kind.Coordinate.working) (view S.Kind.Coordinate.value unit.old) (view S.Kind.Coordinate.value unit.new) out.old out.new (λ m h g text. Answers (setting S.Ruled.ring S.Ruled.widest S.Kind.Coordinate.loading S.Kind.Coordinate.working) m number call h g text) }
 {
     let answer = unit.perform(call);
     print(out, number, call, answer);
@@ -39,7 +39,7 @@ pub fn answer_line<S: NumberSystem, K: Sink>(
     out: &mut K,
 )
     requires { Within line }
-    ensures { Serves K.Sink.lost K.Sink.written (setting S.Ruled.ring S.Ruled.widest Kind-as-Coordinate.loading Kind-as-Coordinate.working) (view Kind-as-Coordinate.value unit.old) (view Kind-as-Coordinate.value unit.new) out.old out.new (λ m h g text. Answered-line (setting S.Ruled.ring S.Ruled.widest Kind-as-Coordinate.loading Kind-as-Coordinate.working) m number line.entry h g text) }
+    ensures { Serves K.Sink.lost K.Sink.written (setting S.Ruled.ring S.Ruled.widest S.Kind.Coordinate.loading S.Kind.Coordinate.working) (view S.Kind.Coordinate.value unit.old) (view S.Kind.Coordinate.value unit.new) out.old out.new (λ m h g text. Answered-line (setting S.Ruled.ring S.Ruled.widest S.Kind.Coordinate.loading S.Kind.Coordinate.working) m number line.entry h g text) }
 {
     match asked(line) {
         Some(call) => answer_call(unit, number, call, out),

@@ -45,7 +45,7 @@ fn start<S: NumberSystem, K: Sink>(system: S, choice: Choice, rest: Field, out: 
 where
     S: Drop,
     requires { (Fitting choice) × ((Within rest) × (length (bytes rest) ≤ longest)) }
-    ensures { (text : List ℕ) × Starts (setting S.Ruled.ring S.Ruled.widest Kind-as-Coordinate.loading Kind-as-Coordinate.working) choice.modulus choice.root choice.start rest.entry text × Given K.Sink.lost K.Sink.written out.old out.new text }
+    ensures { (text : List ℕ) × Starts (setting S.Ruled.ring S.Ruled.widest S.Kind.Coordinate.loading S.Kind.Coordinate.working) choice.modulus choice.root choice.start rest.entry text × Given K.Sink.lost K.Sink.written out.old out.new text }
 {
     match engine_for(&system, choice) {
         Ok(engine) => {

@@ -17,7 +17,7 @@ use sets::table::DigitSet;
 impl<S: NumberSystem, E: PointEngine> Unit<S, E> {
     // A new unit: width 1, no digits, draft, 0 ticks, remainder 0, and the engine as it comes.
     pub fn new(system: S, engine: E) -> Self
-        ensures is { view Kind-as-Coordinate.value result ≡ fresh engine }
+        ensures is { view S.Kind.Coordinate.value result ≡ fresh engine }
         ensures system { result.system ≡ system }
     {
         Unit {
@@ -33,35 +33,35 @@ impl<S: NumberSystem, E: PointEngine> Unit<S, E> {
 
     // How the unit stands.
     pub fn standing(&self) -> Standing
-        ensures { result ≡ (view Kind-as-Coordinate.value self.now).standing }
+        ensures { result ≡ (view S.Kind.Coordinate.value self.now).standing }
     {
         self.standing
     }
 
     // The width.
     pub fn width(&self) -> u32
-        ensures { result ≡ (view Kind-as-Coordinate.value self.now).width }
+        ensures { result ≡ (view S.Kind.Coordinate.value self.now).width }
     {
         self.set.width().places()
     }
 
     // How many digits are held.
     pub fn held(&self) -> usize
-        ensures { result ≡ length (view Kind-as-Coordinate.value self.now).digits }
+        ensures { result ≡ length (view S.Kind.Coordinate.value self.now).digits }
     {
         self.set.len()
     }
 
     // The digit held at a place, and none past the last.
     pub fn digit(&self, place: usize) -> Option<Digit>
-        ensures { MatchOption result (length (view Kind-as-Coordinate.value self.now).digits ≤ place) (λ d. (place < length (view Kind-as-Coordinate.value self.now).digits) × (elem_of d ≡ slice_index_or (view Kind-as-Coordinate.value self.now).digits place 𝟘)) }
+        ensures { MatchOption result (length (view S.Kind.Coordinate.value self.now).digits ≤ place) (λ d. (place < length (view S.Kind.Coordinate.value self.now).digits) × (elem_of d ≡ slice_index_or (view S.Kind.Coordinate.value self.now).digits place 𝟘)) }
     {
         self.set.digit(place)
     }
 
     // The ticks of the last run.
     pub fn ticks(&self) -> u32
-        ensures { result ≡ (view Kind-as-Coordinate.value self.now).ticks }
+        ensures { result ≡ (view S.Kind.Coordinate.value self.now).ticks }
     {
         self.ticks
     }

@@ -5,7 +5,7 @@ use Rattle.replies.proofs.asking.chosen.Goals as goal
 pub returns-in-Ok : goal.returns-in-Ok
 returns-in-Ok c =
     let f = c.args.f in
-    chosen_by f c.in-Ok.line c.in-Ok.ensures c.choice-of.result (c.choice-of.ensures f.place (bytes f) c.in-Ok.ensures)
+    chosen_by f c.in-Ok.line c.in-Ok.ensures c.choice_of.result (c.choice_of.ensures f.place (bytes f) c.in-Ok.ensures)
 
 pub returns-in-Err : goal.returns-in-Err
 returns-in-Err c = λ t m r g q. c.in-Err.ensures.1 q.0 q.1

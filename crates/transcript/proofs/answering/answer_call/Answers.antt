@@ -17,9 +17,9 @@ use Rattle.transcript.proofs.answering.answer_call.Goals as goal
 
 pub print-requires : goal.print-requires
 print-requires g c =
-    let k = setting g.S.Ruled.ring g.S.Ruled.widest g.Kind.Coordinate.loading g.Kind.Coordinate.working in
-    let v = view g.Kind.Coordinate.value c.args.unit.now in
-    let w = view g.Kind.Coordinate.value c.perform-answer.new.self in
+    let k = setting g.S.Ruled.ring g.S.Ruled.widest g.S.Kind.Coordinate.loading g.S.Kind.Coordinate.working in
+    let v = view g.S.Kind.Coordinate.value c.args.unit.now in
+    let w = view g.S.Kind.Coordinate.value c.perform-answer.new.self in
     let set = c.args.unit.now.set in
     let few : length (held set) ≤ 128 = omega (arith, number set, set.most) in
     counted k engines v w few c.args.call c.perform-answer.result c.perform-answer.ensures.told
@@ -28,7 +28,7 @@ pub returns-in-Loaded : goal.returns-in-Loaded
 returns-in-Loaded g c = λ e h x.
     let lost = g.K.Sink.lost in
     let written = g.K.Sink.written in
-    let k = setting g.S.Ruled.ring g.S.Ruled.widest g.Kind.Coordinate.loading g.Kind.Coordinate.working in
+    let k = setting g.S.Ruled.ring g.S.Ruled.widest g.S.Kind.Coordinate.loading g.S.Kind.Coordinate.working in
     let m = engines.meaning e in
     let call = c.args.call in
     let a = c.perform-answer.result in
@@ -53,7 +53,7 @@ returns-in-Loaded g c = λ e h x.
 
 pub returns-in-default : goal.returns-in-default
 returns-in-default g c = λ e h x.
-    let k = setting g.S.Ruled.ring g.S.Ruled.widest g.Kind.Coordinate.loading g.Kind.Coordinate.working in
+    let k = setting g.S.Ruled.ring g.S.Ruled.widest g.S.Kind.Coordinate.loading g.S.Kind.Coordinate.working in
     let m = engines.meaning e in
     let call = c.args.call in
     let a = c.perform-answer.result in

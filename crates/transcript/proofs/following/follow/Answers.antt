@@ -11,8 +11,8 @@ use Rattle.transcript.proofs.following.follow.Goals as goal
 
 pub loop-line-init : goal.loop-line-init
 loop-line-init g c =
-    let k = setting g.S.Ruled.ring g.S.Ruled.widest g.Kind.Coordinate.loading g.Kind.Coordinate.working in
-    let v = view g.Kind.Coordinate.value c.args.unit.now in
+    let k = setting g.S.Ruled.ring g.S.Ruled.widest g.S.Kind.Coordinate.loading g.S.Kind.Coordinate.working in
+    let v = view g.S.Kind.Coordinate.value c.args.unit.now in
     (c.requires.0, omega (arith, c.requires.1), λ e h x. progress_none g.K.Sink.lost g.K.Sink.written k e h c.args.lines c.args.out.now v x)
 
 pub loop-line-smaller : goal.loop-line-smaller
@@ -20,9 +20,9 @@ loop-line-smaller g c = omega (arith, split_length c.loop-line.left c.in-Finishe
 
 pub loop-line-preserved : goal.loop-line-preserved
 loop-line-preserved g c =
-    let k = setting g.S.Ruled.ring g.S.Ruled.widest g.Kind.Coordinate.loading g.Kind.Coordinate.working in
-    let v = view g.Kind.Coordinate.value c.loop-line.unit in
-    let w = view g.Kind.Coordinate.value c.answer-line.new.unit in
+    let k = setting g.S.Ruled.ring g.S.Ruled.widest g.S.Kind.Coordinate.loading g.S.Kind.Coordinate.working in
+    let v = view g.S.Kind.Coordinate.value c.loop-line.unit in
+    let w = view g.S.Kind.Coordinate.value c.answer-line.new.unit in
     let at = c.loop-line.left in
     let line = c.in-Finished.line in
     let rest = c.in-Finished.rest in
@@ -44,8 +44,8 @@ answer-line-requires g c =
 
 pub returns-then-not-is-empty : goal.returns-then-not-is-empty
 returns-then-not-is-empty g c = λ e h x.
-    let k = setting g.S.Ruled.ring g.S.Ruled.widest g.Kind.Coordinate.loading g.Kind.Coordinate.working in
-    let w = view g.Kind.Coordinate.value c.loop-line.unit in
+    let k = setting g.S.Ruled.ring g.S.Ruled.widest g.S.Kind.Coordinate.loading g.S.Kind.Coordinate.working in
+    let w = view g.S.Kind.Coordinate.value c.loop-line.unit in
     let at = c.loop-line.left in
     let p = c.loop-line.invariant.2 e h x in
     let free = cut_free at c.next-line.result c.next-line.ensures c.in-default.not-Finished in
@@ -54,8 +54,8 @@ returns-then-not-is-empty g c = λ e h x.
 
 pub returns-else-not-is-empty : goal.returns-else-not-is-empty
 returns-else-not-is-empty g c = λ e h x.
-    let k = setting g.S.Ruled.ring g.S.Ruled.widest g.Kind.Coordinate.loading g.Kind.Coordinate.working in
-    let w = view g.Kind.Coordinate.value c.loop-line.unit in
+    let k = setting g.S.Ruled.ring g.S.Ruled.widest g.S.Kind.Coordinate.loading g.S.Kind.Coordinate.working in
+    let w = view g.S.Kind.Coordinate.value c.loop-line.unit in
     let at = c.loop-line.left in
     let p = c.loop-line.invariant.2 e h x in
     let free = cut_free at c.next-line.result c.next-line.ensures c.in-default.not-Finished in

@@ -8,8 +8,8 @@ use Rattle.transcript.proofs.running.tick_out.Goals as goal
 
 pub returns-in-default-perform : goal.returns-in-default-perform
 returns-in-default-perform g c =
-    let k = setting g.S.Ruled.ring g.S.Ruled.widest g.Kind.Coordinate.loading g.Kind.Coordinate.working in
-    let v = view g.Kind.Coordinate.value c.args.unit.now in
+    let k = setting g.S.Ruled.ring g.S.Ruled.widest g.S.Kind.Coordinate.loading g.S.Kind.Coordinate.working in
+    let v = view g.S.Kind.Coordinate.value c.args.unit.now in
     record {
       counts = λ e. absurd (let z : ◌≡◌ {A = ℕ} 0 1 = cc in omega arith);
       serves = λ e h x.
@@ -21,9 +21,9 @@ returns-in-default-perform g c =
 
 pub returns : goal.returns
 returns g c =
-    let k = setting g.S.Ruled.ring g.S.Ruled.widest g.Kind.Coordinate.loading g.Kind.Coordinate.working in
-    let v = view g.Kind.Coordinate.value c.args.unit.now in
-    let w = view g.Kind.Coordinate.value c.perform.new.self in
+    let k = setting g.S.Ruled.ring g.S.Ruled.widest g.S.Kind.Coordinate.loading g.S.Kind.Coordinate.working in
+    let v = view g.S.Kind.Coordinate.value c.args.unit.now in
+    let w = view g.S.Kind.Coordinate.value c.perform.new.self in
     let d = c.in-Digit.digit in
     let made = c.in-Digit.ensures in
     record {

@@ -18,7 +18,7 @@ loop-i-init g c = (c.new-unit.ensures.is ∙ ap new (sym (ap (λ v. v.engine) c.
 pub loop-i-preserved : goal.loop-i-preserved
 loop-i-preserved g c =
     let inv = c.loop-i.invariant in
-    let k = setting g.S.Ruled.ring g.S.Ruled.widest g.Kind.Coordinate.loading g.Kind.Coordinate.working in
+    let k = setting g.S.Ruled.ring g.S.Ruled.widest g.S.Kind.Coordinate.loading g.S.Kind.Coordinate.working in
     let M = machine g.E.PointEngine.meaning g.E.PointEngine.total_of g.E.PointEngine.current_of in
     let i = c.loop-i.i in
     let log = c.loop-i.log in
@@ -30,7 +30,7 @@ loop-i-preserved g c =
     let made : Event = event call c.perform-answer.result c.standing-standing.result in
     let items : take (i + 1) (set log i made) ≡ take i log ++ made ∷ [] = take_more_set log i made room in
     let back : reverse (take (i + 1) (set log i made)) ≡ made ∷ reverse (take i log) = ap reverse items ∙ reverse-append (take i log) (made ∷ []) in (
-      subst (λ h. Comes k M start h (view g.Kind.Coordinate.value c.perform-answer.new.self)) (sym back) (view g.Kind.Coordinate.value c.loop-i.unit, inv.0, c.perform-answer.ensures.told, c.standing-standing.ensures),
+      subst (λ h. Comes k M start h (view g.S.Kind.Coordinate.value c.perform-answer.new.self)) (sym back) (view g.S.Kind.Coordinate.value c.loop-i.unit, inv.0, c.perform-answer.ensures.told, c.standing-standing.ensures),
       ap (map (λ (e : Event). e.call)) items ∙ map-append (λ (e : Event). e.call) (take i log) (made ∷ []) ∙ ap (λ l. l ++ call ∷ []) inv.1 ∙ sym (take_more calls i (Width 0) more),
       drop-set-lt (i + 1) log i made (omega arith) ∙ next_drop log c.args.log.now i inv.2,
       c.perform-answer.ensures.system ∙ inv.3,
@@ -39,10 +39,10 @@ loop-i-preserved g c =
 pub returns : goal.returns
 returns g c =
     let inv = c.loop-i.invariant in
-    let k = setting g.S.Ruled.ring g.S.Ruled.widest g.Kind.Coordinate.loading g.Kind.Coordinate.working in
+    let k = setting g.S.Ruled.ring g.S.Ruled.widest g.S.Kind.Coordinate.loading g.S.Kind.Coordinate.working in
     let M = machine g.E.PointEngine.meaning g.E.PointEngine.total_of g.E.PointEngine.current_of in
-    let w = view g.Kind.Coordinate.value c.loop-i.unit in
-    let good = sound g.S.Ruled.ring g.S.Ruled.widest g.Kind.Coordinate.loading g.Kind.Coordinate.working g.S.Ruled.lawful g.S.Ruled.widths g.met.Kind.Coordinate.limits in
+    let w = view g.S.Kind.Coordinate.value c.loop-i.unit in
+    let good = sound g.S.Ruled.ring g.S.Ruled.widest g.S.Kind.Coordinate.loading g.S.Kind.Coordinate.working g.S.Ruled.lawful g.S.Ruled.widths g.met.S.Kind.Coordinate.limits in
     let end : c.loop-i.i ≡ min (length c.args.calls.now) (length c.args.log.now) = search rules in
     let started : c.new-unit.result.engine ≡ c.args.engine = ap (λ v. v.engine) c.new-unit.ensures.is in
     record {

@@ -14,7 +14,7 @@ returns-in-Ok g c =
     let is = passed_on c.args.x c.args.y c.ranges.x c.ranges.y in
     record {
       system = refl;
-      told = puts _ _ _ _ c.in-default.not-Running a b refl refl c.args.x c.args.y c.in-Ok.held
+      told = puts _ _ _ _ c.in_default.not-Running a b refl refl c.args.x c.args.y c.in-Ok.held
           (subst (Puttable g.S.Ruled.ring (width_of a) (held a)) is h.0) (subst (λ z. Added a b z c.in-Ok.held) is h.1) refl;
     }
 
@@ -27,6 +27,6 @@ returns-in-Err g c =
     let most : length (held a) ≤ 128 = omega (arith, number a, a.most) in
     record {
       system = refl;
-      told = put_refused _ _ _ _ c.in-default.not-Running a a refl refl c.args.x c.args.y c.in-Err.refusal most (subst (λ z. Unput g.S.Ruled.ring (width_of a) (held a) z c.in-Err.refusal) is h.0)
-          (ap (λ s. record { width = width_of s; digits = held s; standing = u.standing; ticks = u.ticks; remainder = meaning g.Kind.Coordinate.value u.remainder; verdict = u.verdict; engine = u.engine }) h.1);
+      told = put_refused _ _ _ _ c.in_default.not-Running a a refl refl c.args.x c.args.y c.in-Err.refusal most (subst (λ z. Unput g.S.Ruled.ring (width_of a) (held a) z c.in-Err.refusal) is h.0)
+          (ap (λ s. record { width = width_of s; digits = held s; standing = u.standing; ticks = u.ticks; remainder = meaning g.S.Kind.Coordinate.value u.remainder; verdict = u.verdict; engine = u.engine }) h.1);
     }
