@@ -26,25 +26,25 @@ fn stands(standing: Standing) -> &'static str {
 
 fn show_call(rt: &HostRuntime, call: Call) -> anyhow::Result<()> {
     match call {
-        Call::Width(w) => print!(rt, "width {w}")?,
-        Call::Put(x, y) => print!(rt, "put {x},{y}")?,
-        Call::Take(x, y) => print!(rt, "take {x},{y}")?,
-        Call::Check => print!(rt, "check")?,
+        Call::Width(w) => print!(rt; "width {w}")?,
+        Call::Put(x, y) => print!(rt; "put {x},{y}")?,
+        Call::Take(x, y) => print!(rt; "take {x},{y}")?,
+        Call::Check => print!(rt; "check")?,
         Call::Load(z) => {
             let Element { x, y } = z;
-            print!(rt, "load {x},{y}")?;
+            print!(rt; "load {x},{y}")?;
         }
-        Call::Tick => print!(rt, "tick")?,
-        Call::Abandon => print!(rt, "abandon")?,
+        Call::Tick => print!(rt; "tick")?,
+        Call::Abandon => print!(rt; "abandon")?,
     }
     Ok(())
 }
 
 fn show_answer(rt: &HostRuntime, answer: Answer) -> anyhow::Result<()> {
     match answer {
-        Answer::Classes(n) => print!(rt, "{n} classes")?,
-        Answer::Held(n) => print!(rt, "{n} held")?,
-        Answer::Judged(Verdict::Cleared) => print!(rt, "cleared")?,
+        Answer::Classes(n) => print!(rt; "{n} classes")?,
+        Answer::Held(n) => print!(rt; "{n} held")?,
+        Answer::Judged(Verdict::Cleared) => print!(rt; "cleared")?,
         Answer::Judged(
             Verdict::Barred {
                 first,
@@ -53,18 +53,18 @@ fn show_answer(rt: &HostRuntime, answer: Answer) -> anyhow::Result<()> {
             },
         ) => {
             let Element { x, y } = first;
-            print!(rt, "barred {x},{y} {lead} {period}")?;
+            print!(rt; "barred {x},{y} {lead} {period}")?;
         }
-        Answer::Loaded => print!(rt, "loaded")?,
+        Answer::Loaded => print!(rt; "loaded")?,
         Answer::Digit(d) => {
             let Element { x, y } = d;
-            print!(rt, "digit {x},{y}")?;
+            print!(rt; "digit {x},{y}")?;
         }
-        Answer::Abandoned => print!(rt, "abandoned")?,
+        Answer::Abandoned => print!(rt; "abandoned")?,
         Answer::Refused(refusal) => {
             let number = refusal.number();
             let word = refusal.word();
-            print!(rt, "refused {number} {word}")?;
+            print!(rt; "refused {number} {word}")?;
         }
     }
     Ok(())
@@ -72,7 +72,7 @@ fn show_answer(rt: &HostRuntime, answer: Answer) -> anyhow::Result<()> {
 
 fn show(rt: &HostRuntime, event: Event) -> anyhow::Result<()> {
     show_call(rt, event.call)?;
-    print!(rt, ": ")?;
+    print!(rt; ": ")?;
     show_answer(rt, event.answer)?;
     let standing = stands(event.standing);
     println!(rt; "; {standing}")?;

@@ -37,7 +37,7 @@ returns-in-Loaded g c = λ e h x.
     let kept = c.perform-answer.ensures.kept e h x in
     let answered : Answered k (ring_of m) h reply = kept.1.answers.0 in
     let z = loads_some k (ring_of m) h s call a c.in-Loaded.is answered in
-    let ran = c.run-out.ensures e h reply z.0 z.1 kept.0 in
+    let ran = c.run_out.ensures e h reply z.0 z.1 kept.0 in
     let ds = ran.0 in
     let rest = ran.1.0 in
     let text = answer_line c.args.number call a in
@@ -47,12 +47,12 @@ returns-in-Loaded g c = λ e h x.
         text ++ rest,
         record { reply = reply; asked = refl; answered = answered; rest = rest; follows = follows; says = refl },
         ran.1.2,
-        given_then lost written c.args.out.now c.print.new.out c.run-out.new.out text rest c.print.ensures ran.1.3,
+        given_then lost written c.args.out.now c.print.new.out c.run_out.new.out text rest c.print.ensures ran.1.3,
       ),
     )
 
-pub returns-in-default : goal.returns-in-default
-returns-in-default g c = λ e h x.
+pub returns-in_default : goal.returns-in_default
+returns-in_default g c = λ e h x.
     let k = setting g.S.Ruled.ring g.S.Ruled.widest g.S.Kind.Coordinate.loading g.S.Kind.Coordinate.working in
     let m = engines.meaning e in
     let call = c.args.call in
@@ -61,7 +61,7 @@ returns-in-default g c = λ e h x.
     let reply = event call a s in
     let kept = c.perform-answer.ensures.kept e h x in
     let answered : Answered k (ring_of m) h reply = kept.1.answers.0 in
-    let none = loads_nothing k (ring_of m) h s call a answered c.in-default.not-Loaded in
+    let none = loads_nothing k (ring_of m) h s call a answered c.in_default.not-Loaded in
     let text = answer_line c.args.number call a in
     let nothing : List ℕ = [] in
     let follows : Follows k m h reply (reply ∷ h) nothing = subst (λ o. MatchOption o ((reply ∷ h ≡ reply ∷ h) × (nothing ≡ [])) (λ y. (es : List Elem) × Runs k m h y es nothing × (reply ∷ h ≡ ticked es (reply ∷ h)))) (sym none) (refl, refl) in (

@@ -22,7 +22,7 @@ pub loop-line-preserved : goal.loop-line-preserved
 loop-line-preserved g c =
     let k = setting g.S.Ruled.ring g.S.Ruled.widest g.S.Kind.Coordinate.loading g.S.Kind.Coordinate.working in
     let v = view g.S.Kind.Coordinate.value c.loop-line.unit in
-    let w = view g.S.Kind.Coordinate.value c.answer-line.new.unit in
+    let w = view g.S.Kind.Coordinate.value c.answer_line.new.unit in
     let at = c.loop-line.left in
     let line = c.in-Finished.line in
     let rest = c.in-Finished.rest in
@@ -33,31 +33,31 @@ loop-line-preserved g c =
       omega (arith, inv.1, parts),
       λ e h x.
           let p = inv.2 e h x in
-          let q = c.answer-line.ensures e p.past p.comes in
-          progress_more g.K.Sink.lost g.K.Sink.written k e h c.args.lines c.args.out.now at line rest c.loop-line.number v w c.loop-line.out c.answer-line.new.out p split q.0 q.1.0 q.1.1 q.1.2 q.1.3,
+          let q = c.answer_line.ensures e p.past p.comes in
+          progress_more g.K.Sink.lost g.K.Sink.written k e h c.args.lines c.args.out.now at line rest c.loop-line.number v w c.loop-line.out c.answer_line.new.out p split q.0 q.1.0 q.1.1 q.1.2 q.1.3,
     )
 
-pub answer-line-requires : goal.answer-line-requires
-answer-line-requires g c =
+pub answer_line-requires : goal.answer_line-requires
+answer_line-requires g c =
     let split = c.in-Finished.ensures in
     omega (arith, c.loop-line.invariant.0, split.here, split_length c.loop-line.left c.in-Finished.line c.in-Finished.rest split)
 
-pub returns-then-not-is-empty : goal.returns-then-not-is-empty
-returns-then-not-is-empty g c = λ e h x.
+pub returns-then-not-is_empty : goal.returns-then-not-is_empty
+returns-then-not-is_empty g c = λ e h x.
     let k = setting g.S.Ruled.ring g.S.Ruled.widest g.S.Kind.Coordinate.loading g.S.Kind.Coordinate.working in
     let w = view g.S.Kind.Coordinate.value c.loop-line.unit in
     let at = c.loop-line.left in
     let p = c.loop-line.invariant.2 e h x in
-    let free = cut_free at c.next-line.result c.next-line.ensures c.in-default.not-Finished in
-    let some : bytes at ≡ [] → ⊥ = λ z. let n : length (bytes at) ≡ 0 = ap length z in eqb-false _ 0 (sym c.is-empty.ensures ∙ c.if-not-is-empty.true) n in
+    let free = cut_free at c.next_line.result c.next_line.ensures c.in_default.not-Finished in
+    let some : bytes at ≡ [] → ⊥ = λ z. let n : length (bytes at) ≡ 0 = ap length z in eqb-false _ 0 (sym c.is_empty.ensures ∙ c.if-not-is_empty.true) n in
     progress_end g.K.Sink.lost g.K.Sink.written k e h c.args.lines c.args.out.now at c.loop-line.number w c.loop-line.out c.refuse.new.out p free (refusal_line refusal.Line c.loop-line.number) (lists_broken k (engines.meaning e) c.loop-line.number (bytes at) p.past some) c.refuse.ensures
 
-pub returns-else-not-is-empty : goal.returns-else-not-is-empty
-returns-else-not-is-empty g c = λ e h x.
+pub returns-else-not-is_empty : goal.returns-else-not-is_empty
+returns-else-not-is_empty g c = λ e h x.
     let k = setting g.S.Ruled.ring g.S.Ruled.widest g.S.Kind.Coordinate.loading g.S.Kind.Coordinate.working in
     let w = view g.S.Kind.Coordinate.value c.loop-line.unit in
     let at = c.loop-line.left in
     let p = c.loop-line.invariant.2 e h x in
-    let free = cut_free at c.next-line.result c.next-line.ensures c.in-default.not-Finished in
-    let none : bytes at ≡ [] = empty_is (bytes at) (eqb-true _ 0 (sym c.is-empty.ensures ∙ c.if-not-is-empty.false)) in
+    let free = cut_free at c.next_line.result c.next_line.ensures c.in_default.not-Finished in
+    let none : bytes at ≡ [] = empty_is (bytes at) (eqb-true _ 0 (sym c.is_empty.ensures ∙ c.if-not-is_empty.false)) in
     progress_end g.K.Sink.lost g.K.Sink.written k e h c.args.lines c.args.out.now at c.loop-line.number w c.loop-line.out c.loop-line.out p free [] (lists_ended k (engines.meaning e) c.loop-line.number (bytes at) p.past none) (given_none g.K.Sink.lost g.K.Sink.written c.loop-line.out)

@@ -22,7 +22,7 @@ returns-in-Ok g c =
     let p : c.parameters.result.p ≡ k.ring.p = ap (λ (s : System). s.p) c.parameters.ensures.ruled in (
       system_line c.parameters.result.p ++ text,
       inr (made_fits k q.modulus q.root q.start e made, (text, on, ap (λ n. system_line n ++ text) p)),
-      given_then lost written c.args.out.now c.print-system.new.out c.follow.new.out (system_line c.parameters.result.p) text c.print-system.ensures went.1.3,
+      given_then lost written c.args.out.now c.print_system.new.out c.follow.new.out (system_line c.parameters.result.p) text c.print_system.ensures went.1.3,
     )
 
 pub returns-in-Err : goal.returns-in-Err

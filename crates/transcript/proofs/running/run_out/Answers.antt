@@ -26,20 +26,20 @@ loop-ticks-init g c =
 
 pub loop-ticks-smaller : goal.loop-ticks-smaller
 loop-ticks-smaller g c =
-    let more = c.tick-out.ensures.counts c.loop-ticks-test.true in
+    let more = c.tick_out.ensures.counts c.loop-ticks-test.true in
     let told = c.ticks-ticks-in-loop-ticks.ensures in
-    let fits = c.ticks-ticks-in-loop-ticks.type-inv in
+    let fits = c.ticks-ticks-in-loop-ticks.type_inv in
     omega (arith, more, told, fits)
 
 pub loop-ticks-preserved : goal.loop-ticks-preserved
 loop-ticks-preserved g c =
     let k = setting g.S.Ruled.ring g.S.Ruled.widest g.S.Kind.Coordinate.loading g.S.Kind.Coordinate.working in
     let v = view g.S.Kind.Coordinate.value c.loop-ticks.unit in
-    let w = view g.S.Kind.Coordinate.value c.tick-out.new.unit in (
+    let w = view g.S.Kind.Coordinate.value c.tick_out.new.unit in (
       c.ticks-ticks-in-loop-ticks.ensures,
       λ e h x z is y.
           let q = c.loop-ticks.invariant.1 e h x z is y in
-          course_more g.K.Sink.lost g.K.Sink.written k e h x v w c.args.out.now c.loop-ticks.out c.tick-out.new.out q (c.loop-ticks-test.ensures.serves e q.past q.comes),
+          course_more g.K.Sink.lost g.K.Sink.written k e h x v w c.args.out.now c.loop-ticks.out c.tick_out.new.out q (c.loop-ticks-test.ensures.serves e q.past q.comes),
     )
 
 pub returns : goal.returns
@@ -48,7 +48,7 @@ returns g c = λ e h x z is y.
     let written = g.K.Sink.written in
     let k = setting g.S.Ruled.ring g.S.Ruled.widest g.S.Kind.Coordinate.loading g.S.Kind.Coordinate.working in
     let v = view g.S.Kind.Coordinate.value c.loop-ticks.unit in
-    let w = view g.S.Kind.Coordinate.value c.tick-out.new.unit in
+    let w = view g.S.Kind.Coordinate.value c.tick_out.new.unit in
     let good = sound g.S.Ruled.ring g.S.Ruled.widest g.S.Kind.Coordinate.loading g.S.Kind.Coordinate.working g.S.Ruled.lawful g.S.Ruled.widths g.met.S.Kind.Coordinate.limits in
     let q = c.loop-ticks.invariant.1 e h x z is y in
     let still = c.loop-ticks-test.ensures.serves e q.past q.comes in
@@ -71,6 +71,6 @@ returns g c = λ e h x z is y.
           says = ap (λ n. tick_lines ds ++ run_line n total) ticks;
         },
         comes,
-        given_then lost written c.args.out.now c.tick-out.new.out c.print-run.new.out (tick_lines ds) (run_line c.loop-ticks.ticks total) given c.print-run.ensures,
+        given_then lost written c.args.out.now c.tick_out.new.out c.print_run.new.out (tick_lines ds) (run_line c.loop-ticks.ticks total) given c.print_run.ensures,
       ),
     )

@@ -6,8 +6,8 @@ use Rattle.transcript.specs.Engines.{engines}
 use Rattle.transcript.proofs.Ticks.{comes_stands, tick_digit, tick_counts, tick_leaves}
 use Rattle.transcript.proofs.running.tick_out.Goals as goal
 
-pub returns-in-default-perform : goal.returns-in-default-perform
-returns-in-default-perform g c =
+pub returns-in_default-perform : goal.returns-in_default-perform
+returns-in_default-perform g c =
     let k = setting g.S.Ruled.ring g.S.Ruled.widest g.S.Kind.Coordinate.loading g.S.Kind.Coordinate.working in
     let v = view g.S.Kind.Coordinate.value c.args.unit.now in
     record {
@@ -16,7 +16,7 @@ returns-in-default-perform g c =
           let after = (c.perform.ensures.kept e h x).1 in
           let on = sym (comes_stands k engines e h v x) ∙ sym c.in-Running.ensures in
           let q = tick_digit k (ring_of (engines.meaning e)) h c.perform.new.self.standing c.perform.result after.answers.0 on in
-          absurd (c.in-default-perform.not-Digit q.0 q.1);
+          absurd (c.in_default-perform.not-Digit q.0 q.1);
     }
 
 pub returns : goal.returns
