@@ -1,15 +1,14 @@
 -- What a line asks for: its numbers, and that no other line has its bytes.
-use Rattle.std.proofs.Common.{◌≡◌, ℕ, ◌<◌, Bool, true, false, eqb, ◌⊎◌, List, [], ◌∷◌, get_or, ℤ, Some, None, Option, sym, refl, ap, ◌∙◌, subst, inl, inr, ⊎_elim, arith, w64, SFits, to_z, of_z, MatchOption}
+use Rattle.std.proofs.Common.{◌≡◌, ℕ, Bool, true, false, eqb, ◌⊎◌, List, [], ◌∷◌, get_or, ℤ, Some, None, Option, sym, refl, ap, ◌∙◌, subst, inl, inr, ⊎_elim, arith, w64, SFits, to_z, of_z, MatchOption}
 use Rattle.std.specs.List.{AllByRecursion as All}
 use Rattle.std.proofs.lemmas.Int.{to_z-of_z}
 use Rattle.rules.specs.declared.calls.Call.{Call}
 use Rattle.rules.specs.declared.calls.Call.TheVariants as call
-use Rattle.numerals.specs.Numeral.{Counts, Reads}
+use Rattle.numerals.specs.Numeral.{Reads}
 use Rattle.sheet.specs.Parting.{bytes}
 use Rattle.sheet.specs.Shape.{Number, Shape, parts_of}
 use Rattle.sheet.specs.declared.field.Field.{Field}
 use Rattle.sheet.specs.declared.line.System.{System}
-use Rattle.sheet.specs.declared.line.System.TheVariants.{Kp, Km, G5}
 use Rattle.sheet.specs.declared.line.Line.{Line}
 use Rattle.sheet.specs.declared.line.Line.TheVariants as line
 use Rattle.sheet.proofs.Unique.{one_shape}

@@ -1,9 +1,9 @@
 -- The weighted sum of a list with one entry more.
-use Rattle.std.proofs.Common.{◌≡◌, List, [], ◌∷◌, ◌++◌, length, sym, ap, ◌∙◌, ap₂}
+use Rattle.std.proofs.Common.{◌≡◌, List, [], ◌∷◌, ◌++◌, length, sym, ap, ◌∙◌}
 use Rattle.ring.specs.Elem.{Elem, add, 𝟘, 𝟙}
 use Rattle.ring.specs.System.{System, mul, pow}
 use Rattle.ring.specs.Expansion.{weighted}
-use Rattle.ring.proofs.Elements.{add_assoc, add_comm, add_zero, mul_add, mul_assoc, mul_comm, mul_one, mul_zero}
+use Rattle.ring.proofs.Elements.{add_assoc, add_comm, mul_add, mul_assoc, mul_comm, mul_one, mul_zero}
 
 module _ (s : System) where
   swap : (a b c : Elem) → mul s a (mul s b c) ≡ mul s b (mul s a c)

@@ -1,9 +1,9 @@
 -- The order by natural numbers is ring's; and the box that the elements of small norm stand in.
-use Rattle.std.proofs.Common.{ℕ, ◌<◌, ◌≤◌, ◌⊎◌, pos, nat_abs, ◌<ℤ◌, sym, ap, ◌∙◌, subst, subst₂, inl, inr, ⊎_elim, arith}
+use Rattle.std.proofs.Common.{ℕ, ◌<◌, ◌≤◌, pos, nat_abs, ◌<ℤ◌, sym, ap, ◌∙◌, subst₂, inl, inr, ⊎_elim, arith}
 use lib.Signed.{<ℤ_irrefl}
 use Rattle.std.proofs.lemmas.Int.{ints}
 use Rattle.ring.specs.Elem.{Elem, Below}
-use Rattle.ring.specs.System.{System, Lawful, norm, size}
+use Rattle.ring.specs.System.{System, Lawful, size}
 use Rattle.ring.specs.Verdict.{Before}
 use Rattle.ring.proofs.Norms.{size_is}
 use Rattle.ring.proofs.Boxes.{In, in_box}

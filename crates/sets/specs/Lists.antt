@@ -1,5 +1,5 @@
 -- Lists of elements.
-use Rattle.std.specs.Prelude.{◌≡◌, ℕ, ◌<◌, ◌≤◌, List, [], ◌∷◌, ◌++◌, length, ◌≢◌, slice_index_or}
+use Rattle.std.specs.Prelude.{ℕ, ◌<◌, ◌≤◌, List, [], ◌∷◌, ◌++◌, length, ◌≢◌, slice_index_or}
 use Rattle.std.specs.List.{ContainsAt as Has, remove}
 use Rattle.ring.specs.Elem.{Elem, 𝟘}
 use Rattle.ring.specs.System.{System, Lawful, Widths}

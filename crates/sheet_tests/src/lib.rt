@@ -9,7 +9,6 @@ mod tests {
     use sheet::field::Field;
     use sheet::line::Line;
     use sheet::reading::read_line;
-    use std::test::Fail;
 
     // What a line is: its letter, and the places of its number fields, or 0 for none.
     fn told(text: &str) -> (char, usize, usize) {
@@ -67,16 +66,15 @@ mod tests {
     }
 
     #[test]
-    fn cuts(rt: HostRuntime) -> Result<(), Fail> {
+    fn cuts(rt: HostRuntime) {
         let Cut::Finished(line, rest) = next_line(Field::whole(b"W,2\nC")) else {
             assert!(rt; false);
-            return Ok(());
+            return;
         };
-        assert_eq!(rt; line.text, b"W,2");
+        assert_eq!(rt; line.text, b"W,2".as_slice());
         assert_eq!(rt; rest.place, 4);
         assert!(rt; matches!(next_line(rest), Cut::Unfinished));
         assert!(rt; matches!(next_line(Field::whole(b"")), Cut::End));
-        Ok(())
     }
 
     #[test]
@@ -84,10 +82,10 @@ mod tests {
         let mut buf = [7u8; 80];
         let n = listing::barred_line(&mut buf, -15, 255, 0, 16);
         assert!(rt; matches!(n, Ok(20)));
-        assert_eq!(rt; &buf[0..22], b"C,barred,-f,ff,0,10\n\x07\x07");
+        assert_eq!(rt; &buf[0..22], b"C,barred,-f,ff,0,10\n\x07\x07".as_slice());
         let n = listing::refusal_line(&mut buf, Refusal::Line, 1);
         assert!(rt; matches!(n, Ok(6)));
-        assert_eq!(rt; &buf[0..6], b"N,e,1\n");
+        assert_eq!(rt; &buf[0..6], b"N,e,1\n".as_slice());
         assert!(rt; listing::load_line(&mut buf[0..79]).is_err());
     }
 }

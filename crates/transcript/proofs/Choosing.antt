@@ -1,9 +1,8 @@
 -- The engine that a first line chooses.
-use Rattle.std.proofs.Common.{◌≡◌, ℕ, ◌^◌, ◌<◌, List, [], ℤ, pos, Ok, Err, Result, subst, inl, inr, arith}
+use Rattle.std.proofs.Common.{◌≡◌, ℕ, ◌^◌, ◌<◌, List, ℤ, pos, Ok, Err, Result, subst, inl, inr, arith}
 use Rattle.refusals.specs.Rows.{Uppermost, Unfit}
 use Rattle.refusals.specs.declared.Refusal.{Refusal}
 use Rattle.rules.specs.Views.{Setting}
-use Rattle.residue.specs.Residue.{Modulus, Root}
 use Rattle.residue.specs.Made.{Made}
 use Rattle.residue.specs.declared.ResidueEngine.{ResidueEngine}
 use Rattle.numerals.specs.Numeral.{Counts}

@@ -1,14 +1,14 @@
 -- A run, from the load to its end, in terms of the history.
-use Rattle.std.proofs.Common.{◌≡◌, ℕ, Bool, true, false, cond, ◌⊎◌, List, [], ◌∷◌, ◌++◌, length, Some, None, Ok, Err, Option, Result, sym, refl, ap, ◌∙◌, subst, inl, inr, ⊎_elim, append_assoc, append-nil, arith, MatchOption, MatchResult}
+use Rattle.std.proofs.Common.{◌≡◌, ℕ, Bool, true, false, cond, List, [], ◌∷◌, ◌++◌, length, Some, None, Ok, Err, Option, Result, sym, refl, ap, ◌∙◌, subst, append_assoc, append-nil, arith, MatchOption, MatchResult}
 use Rattle.std.specs.Option.{option_map}
 use Rattle.refusals.specs.declared.Refusal.{Refusal}
 use Rattle.ring.specs.Elem.{Elem}
 use Rattle.ring.specs.Expansion.{Expands}
 use Rattle.numbers.specs.Meaning.{short}
-use Rattle.engine.specs.Meaning.{Meaning, act}
+use Rattle.engine.specs.Meaning.{act}
 use Rattle.rules.specs.Views.{Setting, Machine, View}
-use Rattle.rules.specs.History.{History, Run, accepted, cleared, running, stood, first_some, starting, ticking, closing, run, whole, is_abandon, width, Holding, RunExpands, Ran, Idle, After}
-use Rattle.rules.specs.Comes.{event, Comes}
+use Rattle.rules.specs.History.{History, Run, accepted, cleared, running, stood, first_some, starting, ticking, closing, run, whole, width, Holding, Ran, Idle, After}
+use Rattle.rules.specs.Comes.{Comes}
 use Rattle.rules.specs.Told.{Loads, Down, answer, Tells}
 use Rattle.rules.specs.declared.calls.Standing.{Standing}
 use Rattle.rules.specs.declared.calls.Standing.TheVariants as standing
@@ -23,7 +23,7 @@ use Rattle.transcript.specs.Serving.{Ticked}
 use Rattle.transcript.specs.Engines.{engines}
 use Rattle.residue.specs.declared.ResidueEngine.{ResidueEngine}
 use Rattle.replies.proofs.Fronts.{given_then, given_none}
-use Rattle.transcript.proofs.Ticks.{comes_stands, closes_cleared}
+use Rattle.transcript.proofs.Ticks.{closes_cleared}
 use Rattle.transcript.specs.Transcript.{tick_lines, stands_before, tick_of, ticked, element_of, loaded}
 
 never : {A : Type 0} (a : A) → ◌≡◌ {A = Option A} None (Some a) → ⊥

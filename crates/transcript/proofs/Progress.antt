@@ -1,5 +1,5 @@
 -- How far a sheet has been answered.
-use Rattle.std.proofs.Common.{◌≡◌, ℕ, ◌+◌, ◌<◌, Bool, List, [], ◌∷◌, ◌++◌, length, get_or, sym, refl, ap, ◌∙◌, subst, append_assoc, append-nil, arith, length-append}
+use Rattle.std.proofs.Common.{◌≡◌, ℕ, ◌+◌, Bool, List, [], ◌∷◌, ◌++◌, length, sym, refl, ap, subst, append_assoc, arith, length-append}
 use Rattle.engine.specs.Meaning.{Meaning}
 use Rattle.engine.specs.declared.Point.{Point}
 use Rattle.refusals.specs.declared.Refusal.TheVariants as refusal

@@ -1,12 +1,12 @@
 -- What the answers to calls have in common.
-use Rattle.std.proofs.Common.{◌≡◌, ℕ, ◌+◌, ◌^◌, ◌<◌, ◌≤◌, Bool, true, false, cond, List, [], ◌∷◌, length, ℤ, Some, None, Ok, Err, Option, Result, sym, refl, ap, ◌∙◌, subst, arith, MatchResult}
+use Rattle.std.proofs.Common.{◌≡◌, ℕ, ◌≤◌, Bool, true, false, cond, length, ℤ, Some, None, Ok, Err, Option, Result, sym, refl, subst, arith, MatchResult}
 use Rattle.ring.specs.Elem.{Elem}
 use Rattle.numbers.specs.Meaning.{short}
 use Rattle.numbers.specs.declared.elements.Element.{Element}
 use Rattle.refusals.specs.declared.Refusal.{Refusal}
 use Rattle.digits.specs.declared.verdict.Verdict.{Verdict}
 use Rattle.rules.specs.Views.{Setting, Machine, EngineRing, View}
-use Rattle.rules.specs.Told.{Widens, Puts, Takes, Checks, Loads, Ticks, Abandons, Down, Down-put, Down-tick, answer, Tells}
+use Rattle.rules.specs.Told.{Puts, Takes, Down, Down-put, answer, Tells}
 use Rattle.rules.specs.History.{History, accepted, Answered}
 use Rattle.rules.specs.Comes.{event}
 use Rattle.rules.specs.declared.calls.Standing.{Standing}
@@ -15,7 +15,7 @@ use Rattle.rules.specs.declared.calls.Answer.TheVariants as answers
 use Rattle.rules.specs.declared.calls.Call.{Call}
 use Rattle.rules.specs.declared.calls.Call.TheVariants as call
 use Rattle.replies.specs.Reply.{Counted}
-use Rattle.transcript.specs.Transcript.{element_of, loaded}
+use Rattle.transcript.specs.Transcript.{loaded}
 
 -- the number of digits held that a call answers is small
 module _ {E C : Type 0} (k : Setting) (M : Machine E C) (v w : View E) (few : length v.digits ≤ 128) where

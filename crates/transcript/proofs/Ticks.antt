@@ -1,5 +1,5 @@
 -- One tick of a unit, by what it tells.
-use Rattle.std.proofs.Common.{◌≡◌, ℕ, ◌+◌, true, List, [], ◌∷◌, ℤ, Ok, Err, Result, sym, refl, ap, ◌∙◌, subst, ⊎_elim, arith, MatchResult}
+use Rattle.std.proofs.Common.{◌≡◌, ℕ, ◌+◌, true, [], ◌∷◌, ℤ, Ok, Err, Result, sym, refl, ap, subst, ⊎_elim, arith, MatchResult}
 use Rattle.ring.specs.Elem.{Elem}
 use Rattle.refusals.specs.declared.Refusal.{Refusal}
 use Rattle.numbers.specs.declared.elements.Element.{Element}

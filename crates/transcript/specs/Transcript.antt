@@ -1,5 +1,5 @@
 -- What the listing of a sheet is.
-use Rattle.std.specs.Prelude.{◌≡◌, ℕ, ◌+◌, ◌<◌, ◌≤◌, cond, ◌⊎◌, List, [], ◌∷◌, ◌++◌, length, ℤ, pos, Some, None, Option, MatchOption}
+use Rattle.std.specs.Prelude.{◌≡◌, ℕ, ◌+◌, ◌<◌, ◌≤◌, cond, ◌⊎◌, List, [], ◌∷◌, ◌++◌, length, pos, Some, None, Option, MatchOption}
 use Rattle.ring.specs.Elem.{Elem}
 use Rattle.ring.specs.Expansion.{Expands}
 use Rattle.numbers.specs.Meaning.{short}

@@ -1,5 +1,5 @@
 -- Norms as numbers of the machine, and the bound of the search.
-use Rattle.std.proofs.Common.{◌≡◌, ℕ, ◌+◌, ◌-◌, ◌*◌, ◌/◌, ◌^◌, ◌<◌, ◌≤◌, T, List, length, get_or, ℤ, pos, nat_abs, sym, ap, ◌∙◌, subst, ⊎_elim, le-div_iff_mul-le, div-le_self, arith, w32, w64, Fits, SFits, to_z, of_z}
+use Rattle.std.proofs.Common.{◌≡◌, ℕ, ◌+◌, ◌*◌, ◌/◌, ◌^◌, ◌<◌, ◌≤◌, T, List, length, get_or, ℤ, pos, nat_abs, sym, ap, ◌∙◌, subst, ⊎_elim, le-div_iff_mul-le, div-le_self, arith, w32, w64, Fits, SFits, to_z, of_z}
 use lib.Signed.{non_neg}
 use Rattle.std.proofs.lemmas.Int.{ints, to_z-of_z}
 use Rattle.ring.specs.Elem.{Elem, Below, 𝟘}

@@ -4,7 +4,6 @@ use Rattle.ring.specs.Elem.{𝟘}
 use Rattle.ring.specs.System.{System, Lawful}
 use Rattle.ring.specs.Class.{InRange}
 use Rattle.ring.specs.Expansion.{weighted}
-use Rattle.ring.proofs.Elements.{same}
 use Rattle.ring.proofs.Magnitudes.{base_in_range}
 use Rattle.engine.specs.Meaning.{act}
 use Rattle.engine.specs.Rings.{Over}

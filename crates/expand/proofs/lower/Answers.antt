@@ -1,4 +1,4 @@
-use Rattle.std.proofs.Common.{◌≡◌, ap, ◌∙◌, arith}
+use Rattle.std.proofs.Common.{ap, ◌∙◌, arith}
 use borrow.Author.Differences.{ints}
 use Rattle.ring.specs.Elem.{Elem}
 use Rattle.ring.proofs.Elements.{same}

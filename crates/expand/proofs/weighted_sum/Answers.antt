@@ -1,6 +1,6 @@
-use Rattle.std.proofs.Common.{◌≡◌, suc, ◌+◌, ◌-◌, ◌<◌, ◌∷◌, length, get_or, drop, sym, refl, ap, ◌∙◌, ap₂, arith}
+use Rattle.std.proofs.Common.{◌≡◌, ◌+◌, ◌-◌, ◌<◌, length, get_or, drop, sym, ap, ◌∙◌, arith}
 use Rattle.std.proofs.lemmas.List.{drop_all, drop_more}
-use Rattle.ring.specs.Elem.{Elem, add}
+use Rattle.ring.specs.Elem.{add}
 use Rattle.ring.specs.System.{mul}
 use Rattle.ring.specs.Expansion.{weighted}
 use Rattle.numbers.specs.Meaning.{short}

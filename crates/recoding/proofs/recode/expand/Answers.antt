@@ -1,7 +1,6 @@
-use Rattle.std.proofs.Common.{◌≡◌, ◌<◌, ◌≤◌, length, take, drop, sym, refl, ap, ◌∙◌, subst, arith}
+use Rattle.std.proofs.Common.{◌≡◌, ◌<◌, length, take, drop, sym, subst, arith}
 use Rattle.std.proofs.lemmas.List.{take_more_set}
 use Rattle.std.proofs.lemmas.Bool.{both_ways}
-use Rattle.ring.specs.Elem.{Elem}
 use Rattle.numbers.specs.Meaning.{meaning}
 use Rattle.digits.specs.Digits.{elems}
 use Rattle.recoding.specs.Walk.{Leads}

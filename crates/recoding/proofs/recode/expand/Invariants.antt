@@ -1,5 +1,4 @@
 use Rattle.std.proofs.Common.{◌≡◌, take, drop}
-use Rattle.ring.specs.Elem.{Elem}
 use Rattle.numbers.specs.Meaning.{meaning}
 use Rattle.digits.specs.Digits.{elems}
 use Rattle.recoding.specs.Walk.{Leads}

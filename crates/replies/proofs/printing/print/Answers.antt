@@ -1,4 +1,3 @@
-use Rattle.std.proofs.Common.{replicate}
 use Rattle.replies.specs.Reply.{answer_line}
 use Rattle.replies.proofs.Fronts.{front_fits, front_length, front_given}
 use Rattle.replies.proofs.printing.print.Goals as goal

@@ -1,15 +1,13 @@
-use Rattle.std.proofs.Common.{◌≡◌, ℕ, ◌≤◌, List, [], ◌∷◌, ◌++◌, length, Some, None, sym, refl, ap, ◌∙◌, subst, append-nil, arith, MatchOption}
+use Rattle.std.proofs.Common.{◌≡◌, ℕ, ◌≤◌, List, [], ◌∷◌, ◌++◌, length, sym, refl, subst, append-nil, arith, MatchOption}
 use Rattle.ring.specs.Elem.{Elem}
 use Rattle.sets.specs.Held.{held}
 use Rattle.sets.proofs.Holding.{number}
 use Rattle.rules.specs.Views.{ring_of}
 use Rattle.rules.specs.History.{Answered}
 use Rattle.rules.specs.Comes.{event}
-use Rattle.rules.specs.declared.calls.Answer.TheVariants as answers
 use Rattle.unit.specs.Seen.{setting, view}
 use Rattle.transcript.specs.Engines.{engines}
-use Rattle.replies.specs.Sinks.{Given}
-use Rattle.transcript.specs.Transcript.{loaded, ticked, Runs, Follows}
+use Rattle.transcript.specs.Transcript.{ticked, Runs, Follows}
 use Rattle.replies.specs.Reply.{answer_line}
 use Rattle.replies.proofs.Fronts.{given_then}
 use Rattle.transcript.proofs.Replies.{counted, loads_some, loads_nothing}

@@ -1,8 +1,7 @@
-use Rattle.std.proofs.Common.{◌≡◌, [], ◌++◌, sym, refl, ap, ◌∙◌, subst, inl, inr}
+use Rattle.std.proofs.Common.{◌≡◌, [], ◌++◌, refl, ap, subst, inl, inr}
 use Rattle.ring.specs.System.{System}
 use Rattle.listing.specs.Lines.{system_line}
 use Rattle.unit.specs.Seen.{setting}
-use Rattle.transcript.specs.Engines.{engine_of}
 use Rattle.transcript.specs.Transcript.{Goes_on}
 use Rattle.transcript.proofs.Choosing.{made_fits, refused_by}
 use Rattle.replies.proofs.Fronts.{given_then}

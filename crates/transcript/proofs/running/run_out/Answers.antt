@@ -1,8 +1,8 @@
-use Rattle.std.proofs.Common.{◌≡◌, ◌∷◌, ◌++◌, length, pos, sym, refl, ap, ◌∙◌, subst, arith}
+use Rattle.std.proofs.Common.{◌≡◌, ◌∷◌, ◌++◌, length, pos, sym, ap, ◌∙◌, subst, arith}
 use Rattle.engine.specs.Meaning.{Meaning, act}
 use Rattle.engine.specs.declared.Point.{Point}
 use Rattle.rules.specs.Views.{View}
-use Rattle.rules.specs.History.{stood, After}
+use Rattle.rules.specs.History.{stood}
 use Rattle.rules.specs.Comes.{Comes}
 use Rattle.rules.specs.declared.calls.Standing.TheVariants as standing
 use Rattle.rules.proofs.Keeps.{comes_after}
