@@ -1,6 +1,6 @@
 -- A line while it is written.
 use Rattle.std.proofs.Common.{◌≡◌, ℕ, ◌+◌, ◌*◌, ◌<◌, ◌≤◌, List, [], ◌∷◌, ◌++◌, length, get_or, take, drop, set, ℤ, pos, sym, refl, ap, ◌∙◌, append_assoc, append-nil, arith, length-append, take-append-drop}
-use Rattle.std.specs.List.{AllByRecursion as All}
+use Rattle.std.specs.List.{AllByRecursion}
 use Rattle.std.proofs.lemmas.List.{take_more, length_push}
 use Rattle.numerals.specs.Numeral.{most, written, Writable}
 use Rattle.numerals.specs.Overwrite.{overwrite}
@@ -56,7 +56,7 @@ module _ (xs : List ℤ) (i : ℕ) (lt : i < length xs) where
       omega (arith, ap length fields_more, length-append (front ++ (44 ∷ [])) (written x), length-append front (44 ∷ []))
 
 -- numbers that can be written take few bytes
-pub length_fields : (xs : List ℤ) → All Writable xs → length (fields xs) ≤ (most + 2) * length xs
+pub length_fields : (xs : List ℤ) → AllByRecursion Writable xs → length (fields xs) ≤ (most + 2) * length xs
 length_fields [] h = omega arith
 length_fields (x ∷ xs) h =
     omega (arith, length-append (44 ∷ written x) (fields xs), length_written most x (omega arith) h.0, length_fields xs h.1)

@@ -3,7 +3,7 @@
 #![tactic(auto)]
 
 ghost use Rattle.std.specs.Prelude.{◌≡◌, ◌+◌, ◌*◌, ◌<◌, ◌≤◌, length, pos};
-ghost use Rattle.std.specs.List.{AllByRecursion as All};
+ghost use Rattle.std.specs.List.{AllByRecursion};
 ghost use Rattle.refusals.specs.Refusal.{number_of};
 ghost use Rattle.numerals.specs.Numeral.{most, Reads, Writable, written};
 ghost use Rattle.numerals.specs.Overwrite.{overwrite};
@@ -45,7 +45,7 @@ fn write_fields(out: &mut [u8], at: usize, numbers: &[i64]) -> usize
 
 // Writes a line: its head, its numbers, and the byte that ends it.
 fn write_line(out: &mut [u8], head: &[u8], numbers: &[i64]) -> Result<usize, Refusal>
-    requires { (length head.now + (most + 2) * length numbers.now < room) × (All Writable numbers.now) }
+    requires { (length head.now + (most + 2) * length numbers.now < room) × (AllByRecursion Writable numbers.now) }
     ensures { Printed result out.old out.new (line_of head.now numbers.now) }
 {
     if out.len() < ROOM {

@@ -1,6 +1,6 @@
 -- What a line asks for: its numbers, and that no other line has its bytes.
 use Rattle.std.proofs.Common.{◌≡◌, ℕ, Bool, true, false, eqb, ◌⊎◌, List, [], ◌∷◌, get_or, ℤ, Some, None, Option, sym, refl, ap, ◌∙◌, subst, inl, inr, ⊎_elim, arith, w64, SFits, to_z, of_z, MatchOption}
-use Rattle.std.specs.List.{AllByRecursion as All}
+use Rattle.std.specs.List.{AllByRecursion}
 use Rattle.std.proofs.lemmas.Int.{to_z-of_z}
 use Rattle.rules.specs.declared.calls.Call.{Call}
 use Rattle.rules.specs.declared.calls.Call.TheVariants as call
@@ -20,7 +20,7 @@ abbrev pub Told : Field → ℤ → Type 0
 Told f x = (z : ℤ) → Reads (bytes f) z → x ≡ z
 
 -- two numbers that two fields denote
-pub pair : (a b : Field) → All (Number true) (a ∷ b ∷ []) → (x y : ℤ) → Told a x → Told b y → Pair a b x y
+pub pair : (a b : Field) → AllByRecursion (Number true) (a ∷ b ∷ []) → (x y : ℤ) → Told a x → Told b y → Pair a b x y
 pair a b h x y tx ty = record { first = subst (Reads (bytes a)) (sym (tx h.0.0 h.0.1)) h.0.1; second = subst (Reads (bytes b)) (sym (ty h.1.0.0 h.1.0.1)) h.1.0.1 }
 
 -- a number that the code passes on is told as well

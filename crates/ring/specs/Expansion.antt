@@ -1,6 +1,6 @@
 -- Expansions of an element over a set of digits, in powers of the base.
 use Rattle.std.specs.Prelude.{◌≡◌, ℕ, ◌+◌, ◌<◌, ◌≢◌, ◌⊎◌, List, [], ◌∷◌, slice_index_or}
-use Rattle.std.specs.List.{AllByRecursion as All}
+use Rattle.std.specs.List.{AllByRecursion}
 use Rattle.ring.specs.Elem.{Elem, add, 𝟘}
 use Rattle.ring.specs.System.{System, mul}
 
@@ -18,7 +18,7 @@ LastNonzero (e ∷ f ∷ es) = LastNonzero (f ∷ es)
 -- of any w neighbours at most one is not 0, zeros past the end counted
 pub record Expands (s : System) (w : ℕ) (S : Elem → Type 0) (z : Elem) (es : List Elem) : Type 0 where
   pub total : weighted s es ≡ z
-  pub entries : All (λ e. (e ≡ 𝟘) ⊎ S e) es
+  pub entries : AllByRecursion (λ e. (e ≡ 𝟘) ⊎ S e) es
   pub last : LastNonzero es
   pub sparse : (i j : ℕ) → i < j → j < i + w → (slice_index_or es i 𝟘 ≡ 𝟘) ⊎ (slice_index_or es j 𝟘 ≡ 𝟘)
 

@@ -1,6 +1,6 @@
 -- The same bytes are no two different lines.
 use Rattle.std.proofs.Common.{◌≡◌, ℕ, zero, suc, ◌<◌, true, false, List, [], ◌∷◌, ◌++◌, length, sym, ap, ◌∙◌, append_assoc, arith}
-use Rattle.std.specs.List.{AllByRecursion as All}
+use Rattle.std.specs.List.{AllByRecursion}
 use Rattle.sheet.specs.declared.line.Line.{Line}
 use Rattle.sheet.specs.declared.line.Line.TheVariants.{System, Width, Put, Take, Check, Load}
 use Rattle.sheet.specs.Parting.{Free}
@@ -14,7 +14,7 @@ commas [] = []
 commas (a ∷ []) = a
 commas (a ∷ b ∷ more) = a ++ (44 ∷ commas (b ∷ more))
 
-same_commas : (more bs : List (List ℕ)) → All (Free 44) more → All (Free 44) bs → 0 < length more → 0 < length bs → commas more ≡ commas bs → more ≡ bs
+same_commas : (more bs : List (List ℕ)) → AllByRecursion (Free 44) more → AllByRecursion (Free 44) bs → 0 < length more → 0 < length bs → commas more ≡ commas bs → more ≡ bs
 same_commas [] bs f g m n e = absurd (omega arith)
 same_commas (a ∷ more) [] f g m n e = absurd (omega arith)
 same_commas (a ∷ []) (b ∷ []) f g m n e = ap (λ x. x ∷ []) e
@@ -38,7 +38,7 @@ one_free : (x : ℕ) → (x ≡ 44 → ⊥) → Free 44 (x ∷ [])
 one_free x n zero lt e = n e
 one_free x n (suc k) lt e = omega arith
 
-line_free : (p : ℕ) (s : List ℕ) (l : Line) → Shape p s l → All (Free 44) (parts_of l)
+line_free : (p : ℕ) (s : List ℕ) (l : Line) → Shape p s l → AllByRecursion (Free 44) (parts_of l)
 line_free p s (System d m r g) (u, e, h) =
     (one_free 83 (λ i. omega arith), (name_free d, (number_free false m h.2.0, (number_free false r h.2.1.0, (number_free false g h.2.1.1.0, tt)))))
 line_free p s (Width w) (u, e, h) = (one_free 87 (λ i. omega arith), (number_free false w h.2.0, tt))

@@ -1,6 +1,6 @@
 -- The shapes of a sheet's lines.
 use Rattle.std.specs.Prelude.{◌≡◌, ℕ, ◌+◌, Bool, true, false, List, [], ◌∷◌, ◌++◌, length, ℤ, codes}
-use Rattle.std.specs.List.{AllByRecursion as All}
+use Rattle.std.specs.List.{AllByRecursion}
 use Rattle.numerals.specs.Numeral.{Counts, Reads}
 use Rattle.sheet.specs.declared.field.Field.{Field}
 use Rattle.sheet.specs.declared.line.System.{System}
@@ -22,7 +22,7 @@ joined (f ∷ g ∷ fs) = bytes f ++ (44 ∷ joined (g ∷ fs))
 
 -- the bytes s at place p are the number fields fs
 abbrev pub Parts : Bool → ℕ → List ℕ → List Field → Type 0
-Parts signed p s fs = (s ≡ joined fs) × Placed p fs × All (Number signed) fs
+Parts signed p s fs = (s ≡ joined fs) × Placed p fs × AllByRecursion (Number signed) fs
 
 -- the name of a system
 abbrev pub name_of : System → List ℕ

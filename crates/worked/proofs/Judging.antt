@@ -3,7 +3,7 @@ use Rattle.std.proofs.Common.{◌≡◌, ℕ, zero, suc, ◌+◌, ◌-◌, ◌*�
 use native.Mathlib.Decide.{dec_lt}
 use borrow.Author.Differences.{ints}
 use lib.Signed.{lt_z}
-use Rattle.std.specs.List.{ContainsAt as Has, AllByRecursion as All}
+use Rattle.std.specs.List.{ContainsAt as Has, AllByRecursion}
 use Rattle.ring.specs.Elem.{Elem, 𝟘}
 use Rattle.ring.specs.System.{System, Lawful, norm, size}
 use Rattle.ring.specs.Class.{Full}
@@ -94,7 +94,7 @@ cleared_at s v ds n D X =
 cleared_is : (s : System) (g : Lawful s) (v : ℕ) (ds : List Elem) (full : Full s (suc v) (Has ds)) (n D X : ℕ) → T (every (cleared_at s v ds n D X)) → (z : Elem) → HasExpansion s (suc v) (Has ds) z
 cleared_is s g v ds full n D X h = abs_bound s g v ds full D small near
   where
-    q : All T (cleared_at s v ds n D X)
+    q : AllByRecursion T (cleared_at s v ds n D X)
     q = every_is (cleared_at s v ds n D X) h
 
     small : (d : Elem) → Has ds d → abs_norm s d ≤ D
@@ -134,7 +134,7 @@ barred_is s g v ds full n first l p X h = record { none = none; earlier = before
     t : Trail s (suc v) (Has ds) f
     t = walk_is s g v ds full first
 
-    q : All T (barred_at s v ds n first l p X)
+    q : AllByRecursion T (barred_at s v ds n first l p X)
     q = every_is (barred_at s v ds n first l p X) h
 
     some : 0 < p
@@ -185,7 +185,7 @@ abbrev all_shown : System → ℕ → List Elem → List Shown → Bool
 all_shown s v ds [] = true
 all_shown s v ds (e ∷ es) = every (shows s v ds e.element e.entries ∷ all_shown s v ds es ∷ [])
 
-shown_is : (s : System) (g : Lawful s) (v : ℕ) (ds : List Elem) (full : Full s (suc v) (Has ds)) (es : List Shown) → T (all_shown s v ds es) → All (λ e. Expands s (suc v) (Has ds) e.element e.entries) es
+shown_is : (s : System) (g : Lawful s) (v : ℕ) (ds : List Elem) (full : Full s (suc v) (Has ds)) (es : List Shown) → T (all_shown s v ds es) → AllByRecursion (λ e. Expands s (suc v) (Has ds) e.element e.entries) es
 shown_is s g v ds full [] h = tt
 shown_is s g v ds full (e ∷ es) h =
     let q = every_is (shows s v ds e.element e.entries ∷ all_shown s v ds es ∷ []) h in
@@ -213,7 +213,7 @@ abbrev pub all_right : List Case → Bool
 all_right [] = true
 all_right (c ∷ cs) = every (right? c ∷ all_right cs ∷ [])
 
-pub all_right_is : (cs : List Case) → T (all_right cs) → All Right cs
+pub all_right_is : (cs : List Case) → T (all_right cs) → AllByRecursion Right cs
 all_right_is [] h = tt
 all_right_is (c ∷ cs) h =
     let q = every_is (right? c ∷ all_right cs ∷ []) h in

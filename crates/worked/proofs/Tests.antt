@@ -4,7 +4,7 @@ use native.Mathlib.Nat.{mul-div_cancel_left}
 use borrow.Author.Differences.{ints}
 use lib.Dec.{eqb_refl}
 use lib.Signed.{quot_z}
-use Rattle.std.specs.List.{AllByRecursion as All}
+use Rattle.std.specs.List.{AllByRecursion}
 use Rattle.ring.specs.Elem.{Elem}
 use Rattle.ring.specs.System.{System, mul, norm}
 use Rattle.ring.specs.Class.{Divides}
@@ -17,7 +17,7 @@ abbrev pub every : List Bool → Bool
 every [] = true
 every (b ∷ bs) = elim b [ true ↦ every bs | false ↦ false ]
 
-pub every_is : (bs : List Bool) → T (every bs) → All T bs
+pub every_is : (bs : List Bool) → T (every bs) → AllByRecursion T bs
 every_is [] h = tt
 every_is (true ∷ bs) h = (tt, every_is bs h)
 every_is (false ∷ bs) h = absurd h
@@ -57,7 +57,7 @@ eq_e a b = every (eq_z a.x b.x ∷ eq_z a.y b.y ∷ [])
 pub eq_e_is : (a b : Elem) → T (eq_e a b) → a ≡ b
 eq_e_is a b h = let q = every_is (eq_z a.x b.x ∷ eq_z a.y b.y ∷ []) h in same a b (eq_z_is a.x b.x q.0) (eq_z_is a.y b.y q.1.0)
 
-pub every_from : (bs : List Bool) → All T bs → T (every bs)
+pub every_from : (bs : List Bool) → AllByRecursion T bs → T (every bs)
 every_from [] h = tt
 every_from (true ∷ bs) h = every_from bs h.1
 every_from (false ∷ bs) h = absurd h.0

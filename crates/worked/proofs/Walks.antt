@@ -2,7 +2,7 @@
 use Rattle.std.proofs.Common.{◌≡◌, ℕ, zero, suc, ◌-◌, ◌*◌, ◌^◌, ◌<◌, ◌≤◌, Bool, true, false, not, T, eqb, leb, List, [], ◌∷◌, length, get_or, pos, negsuc, sym, refl, ap, ◌∙◌, subst, inl, inr, arith, eqb→eq, leb→le}
 use native.Mathlib.Decide.{dec_lt}
 use lib.Signed.{le_z, le_z_yes}
-use Rattle.std.specs.List.{ContainsAt as Has, AllByRecursion as All}
+use Rattle.std.specs.List.{ContainsAt as Has, AllByRecursion}
 use Rattle.std.proofs.ByRecursion.{has_get_or}
 use Rattle.ring.specs.Elem.{Elem, sub, 𝟘}
 use Rattle.ring.specs.System.{System, Lawful, mul, norm, pow}
@@ -79,7 +79,7 @@ module _ (s : System) (g : Lawful s) (v : ℕ) (ds : List Elem) where
   pub full_is : T (every (fullness s v ds)) → Full s (suc v) (Has ds)
   full_is h = record { odd = odd; one = one; some = some }
     where
-      q : All T (fullness s v ds)
+      q : AllByRecursion T (fullness s v ds)
       q = every_is (fullness s v ds) h
 
       odd_at : (k : ℕ) → k < length ds → ¬ (Even s (get_or ds k 𝟘))

@@ -1,6 +1,6 @@
 -- Nine sets worked out by hand, with their verdicts, and two expansions.
 use Rattle.std.specs.Prelude.{ℕ, List, [], ◌∷◌, ℤ, pos, negsuc}
-use Rattle.std.specs.List.{ContainsAt as Has, AllByRecursion as All}
+use Rattle.std.specs.List.{ContainsAt as Has, AllByRecursion}
 use Rattle.ring.specs.Elem.{Elem, 𝟘}
 use Rattle.ring.specs.System.{System, Lawful}
 use Rattle.ring.specs.Class.{Full}
@@ -34,7 +34,7 @@ Right c = record {
   lawful : Lawful c.system;
   full : Full c.system c.width (Has c.digits);
   verdict : Holds c.system c.width (Has c.digits) c.verdict;
-  shown : All (λ e. Expands c.system c.width (Has c.digits) e.element e.entries) c.shown;
+  shown : AllByRecursion (λ e. Expands c.system c.width (Has c.digits) e.element e.entries) c.shown;
 }
 
 abbrev pub cases : List Case
@@ -62,4 +62,4 @@ cases =
     record { system = g5; width = 1; digits = at -1 -1 ∷ at -1 (pos 0) ∷ at (pos 0) (pos 1) ∷ at (pos 0) -1 ∷ []; verdict = barred (at (pos 1) (pos 0)) 0 1; shown = [] } ∷ []
 
 abbrev pub WorkedCases : Type 0
-WorkedCases = All Right cases
+WorkedCases = AllByRecursion Right cases
