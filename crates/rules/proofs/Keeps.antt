@@ -5,7 +5,7 @@ use Rattle.numbers.specs.declared.elements.Element.{Element}
 use Rattle.digits.specs.declared.verdict.Verdict.{Verdict}
 use Rattle.engine.specs.Meaning.{LawfulMeaning}
 use Rattle.rules.specs.Views.{Setting, Machine, View}
-use Rattle.rules.specs.Told.{Down, Down-put, Down-tick, Widens, Puts, Takes, Checks, Loads, Ticks, Abandons, answer, Tells}
+use Rattle.rules.specs.Told.{Down, DownPut, DownTick, Widens, Puts, Takes, Checks, Loads, Ticks, Abandons, answer, Tells}
 use Rattle.rules.specs.History.{History, After}
 use Rattle.rules.specs.Comes.{event, Comes, Throughout}
 use Rattle.rules.specs.Theorems.{Sound, HoldsThroughout, Keeps as AllKeep}
@@ -37,7 +37,7 @@ module _ {E C : Type 0} (k : Setting) (M : Machine E C) (sound : Sound k) (lawfu
         go (Err y) x = refused_keeps k M e h v i (Width n) y w x.why x.same
     call_keeps (Put dx dy) a w t = answered (Put dx dy) a _ w t.1 (go t.0 t.2)
       where
-        go : (r : Result ℕ Refusal) → MatchResult r (Puts k M v w dx dy) (Down-put k M v w dx dy) → Inv k M e (event (Put dx dy) (answer Held r) w.standing ∷ h) w
+        go : (r : Result ℕ Refusal) → MatchResult r (Puts k M v w dx dy) (DownPut k M v w dx dy) → Inv k M e (event (Put dx dy) (answer Held r) w.standing ∷ h) w
         go (Ok j) x = put_keeps k M e h v i dx dy j w x
         go (Err y) x = ⊎_elim (λ z. refused_keeps k M e h v i (Put dx dy) y w z x.same) (λ z. absurd (never_crowded k M e h v i sound dx dy z.2 z.1)) x.why
     call_keeps (Take dx dy) a w t = answered (Take dx dy) a _ w t.1 (go t.0 t.2)
@@ -57,7 +57,7 @@ module _ {E C : Type 0} (k : Setting) (M : Machine E C) (sound : Sound k) (lawfu
         go (Err y) x = refused_keeps k M e h v i (Load z) y w x.why x.same
     call_keeps Tick a w t = answered Tick a _ w t.1 (go t.0 t.2)
       where
-        go : (r : Result (Element ℤ) Refusal) → MatchResult r (Ticks k M v w) (Down-tick k M v w) → Inv k M e (event Tick (answer Digit r) w.standing ∷ h) w
+        go : (r : Result (Element ℤ) Refusal) → MatchResult r (Ticks k M v w) (DownTick k M v w) → Inv k M e (event Tick (answer Digit r) w.standing ∷ h) w
         go (Ok j) x = tick_keeps k M sound lawful e h v i j w x
         go (Err y) x = ⊎_elim (λ z. refused_keeps k M e h v i Tick y w z x.same) (λ z. absurd (never_stuck k M sound lawful e h v i (on_of v.standing z.2.0) z.1)) x.why
     call_keeps Abandon a w t = answered Abandon a _ w t.1 (go t.0 t.2)

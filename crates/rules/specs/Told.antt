@@ -76,7 +76,7 @@ module _ {E C : Type 0} (k : Setting) (M : Machine E C) (v w : View E) where
     pub after : w ≡ redrawn v.width (v.digits ++ elem x y ∷ []) Draft None
 
   -- also where 128 digits are held and none of the class, which no list of calls brings about
-  pub record Down-put (x y : ℤ) (e : Refusal) : Type 0 where
+  pub record DownPut (x y : ℤ) (e : Refusal) : Type 0 where
     pub why : Uppermost (rows_at (Put x y)) e ⊎ ((e ≡ Doubled) × (length v.digits ≡ 128) × Unfit (rows_at (Put x y)))
     pub same : w ≡ v
 
@@ -104,7 +104,7 @@ module _ {E C : Type 0} (k : Setting) (M : Machine E C) (v w : View E) where
     pub after : w ≡ record { width = v.width; digits = v.digits; standing = w.standing; ticks = v.ticks + 1; remainder = w.remainder; verdict = v.verdict; engine = w.engine }
 
   -- also where no step can be taken or counted, which no list of calls brings about
-  pub record Down-tick (e : Refusal) : Type 0 where
+  pub record DownTick (e : Refusal) : Type 0 where
     pub why : Uppermost (rows_at Tick) e ⊎ ((e ≡ Idle) × (Stopped k.ring k.working v.width v.digits v.remainder ⊎ (2 ^ 32 ≤ v.ticks + 1)) × Unfit (rows_at Tick))
     pub same : w ≡ v
 
@@ -121,9 +121,9 @@ module _ {E C : Type 0} (k : Setting) (M : Machine E C) (v w : View E) where
   -- what the call answers, and the unit after it
   abbrev pub Tells : Call → Answer → Type 0
   Tells (Width n) a = (r : Result ℕ Refusal) × (a ≡ answer Classes r) × MatchResult r (Widens k M v w n) (Down k M v w (Width n))
-  Tells (Put x y) a = (r : Result ℕ Refusal) × (a ≡ answer Held r) × MatchResult r (Puts k M v w x y) (Down-put k M v w x y)
+  Tells (Put x y) a = (r : Result ℕ Refusal) × (a ≡ answer Held r) × MatchResult r (Puts k M v w x y) (DownPut k M v w x y)
   Tells (Take x y) a = (r : Result ℕ Refusal) × (a ≡ answer Held r) × MatchResult r (Takes k M v w x y) (Down k M v w (Take x y))
   Tells Check a = (r : Result Verdict Refusal) × (a ≡ answer Judged r) × MatchResult r (Checks k M v w) (Down k M v w Check)
   Tells (Load z) a = (r : Result (Unit {0}) Refusal) × (a ≡ answer (λ _. Loaded) r) × MatchResult r (λ _. Loads k M v w z) (Down k M v w (Load z))
-  Tells Tick a = (r : Result (Element ℤ) Refusal) × (a ≡ answer Digit r) × MatchResult r (Ticks k M v w) (Down-tick k M v w)
+  Tells Tick a = (r : Result (Element ℤ) Refusal) × (a ≡ answer Digit r) × MatchResult r (Ticks k M v w) (DownTick k M v w)
   Tells Abandon a = (r : Result (Unit {0}) Refusal) × (a ≡ answer (λ _. Abandoned) r) × MatchResult r (λ _. Abandons k M v w) (Down k M v w Abandon)

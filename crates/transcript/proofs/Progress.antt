@@ -14,7 +14,7 @@ use Rattle.sheet.specs.declared.cutting.Cut.{Cut}
 use Rattle.sheet.specs.declared.cutting.Cut.TheVariants.{Finished, Unfinished, End}
 use Rattle.transcript.specs.Engines.{engines}
 use Rattle.replies.specs.Sinks.{Given}
-use Rattle.transcript.specs.Transcript.{Answered-line, Lists, Goes_on}
+use Rattle.transcript.specs.Transcript.{AnsweredLine, Lists, Goes_on}
 use Rattle.replies.proofs.Fronts.{given_then, given_none}
 
 -- what is cut where no finished line is left
@@ -53,7 +53,7 @@ module _ {K : Type 0} (lost : K → Bool) (written : K → List ℕ) (k : Settin
   progress_none w c = record { past = h; text = []; comes = c; given = given_none lost written a; goes_on = λ fs left more x y. (fs, x, y) }
 
   pub progress_more : (at line rest : Field) (i : ℕ) (v w : View ResidueEngine) (b c : K) (p : Progress at i v b) → Split 10 at line rest →
-      (g : History) (t : List ℕ) → Answered-line k (engines.meaning e) i line p.past g t → Comes k engines e g w → Given lost written b c t → Progress rest (i + 1) w c
+      (g : History) (t : List ℕ) → AnsweredLine k (engines.meaning e) i line p.past g t → Comes k engines e g w → Given lost written b c t → Progress rest (i + 1) w c
   progress_more at line rest i v w b c p split g t answered comes given = record {
     past = g;
     text = p.text ++ t;

@@ -6,7 +6,7 @@ use Rattle.numbers.specs.declared.elements.Element.{Element}
 use Rattle.refusals.specs.declared.Refusal.{Refusal}
 use Rattle.digits.specs.declared.verdict.Verdict.{Verdict}
 use Rattle.rules.specs.Views.{Setting, Machine, EngineRing, View}
-use Rattle.rules.specs.Told.{Puts, Takes, Down, Down-put, answer, Tells}
+use Rattle.rules.specs.Told.{Puts, Takes, Down, DownPut, answer, Tells}
 use Rattle.rules.specs.History.{History, accepted, Answered}
 use Rattle.rules.specs.Comes.{event}
 use Rattle.rules.specs.declared.calls.Standing.{Standing}
@@ -27,7 +27,7 @@ module _ {E C : Type 0} (k : Setting) (M : Machine E C) (v w : View E) (few : le
       go (Err y) = tt
   counted (call.Put x y) a t = subst Counted (sym t.1) (go t.0 t.2)
     where
-      go : (r : Result ℕ Refusal) → MatchResult r (Puts k M v w x y) (Down-put k M v w x y) → Counted (answer answers.Held r)
+      go : (r : Result ℕ Refusal) → MatchResult r (Puts k M v w x y) (DownPut k M v w x y) → Counted (answer answers.Held r)
       go (Ok j) p = omega (arith, p.number)
       go (Err y) p = tt
   counted (call.Take x y) a t = subst Counted (sym t.1) (go t.0 t.2)

@@ -4,7 +4,7 @@ use Rattle.ring.specs.Elem.{Elem}
 use Rattle.refusals.specs.declared.Refusal.{Refusal}
 use Rattle.numbers.specs.declared.elements.Element.{Element}
 use Rattle.rules.specs.Views.{Setting, Machine, EngineRing, View}
-use Rattle.rules.specs.Told.{Closes, Ticks, Down-tick, answer, Tells}
+use Rattle.rules.specs.Told.{Closes, Ticks, DownTick, answer, Tells}
 use Rattle.rules.specs.History.{History, cleared, stood, Answered}
 use Rattle.rules.specs.Comes.{event, Comes}
 use Rattle.rules.specs.declared.calls.Standing.{Standing}
@@ -37,7 +37,7 @@ module _ {E C : Type 0} (k : Setting) (M : Machine E C) (v w : View E) where
   pub ticks_told : (d : Element ℤ) → Tells k M v w call.Tick (Digit d) → Ticks k M v w d
   ticks_told d t = go t.0 t.1 t.2
     where
-      go : (r : Result (Element ℤ) Refusal) → Digit d ≡ answer Digit r → MatchResult r (Ticks k M v w) (Down-tick k M v w) → Ticks k M v w d
+      go : (r : Result (Element ℤ) Refusal) → Digit d ≡ answer Digit r → MatchResult r (Ticks k M v w) (DownTick k M v w) → Ticks k M v w d
       go (Ok x) e y = let same : x ≡ d = cc in subst (Ticks k M v w) same y
       go (Err x) e y = absurd (let z : ◌≡◌ {A = ℕ} 0 1 = cc in omega arith)
 

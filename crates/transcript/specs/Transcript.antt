@@ -84,14 +84,14 @@ module _ (k : Setting) (m : Meaning Point) where
     pub says : text ≡ answer_line i reply.call reply.answer ++ rest
 
   -- the field f is line i of the sheet: it asks for a call, or it is of no shape that asks for one
-  abbrev pub Answered-line : ℕ → Field → History → History → List ℕ → Type 0
-  Answered-line i f h g text = ((c : Call) × Asks f c × Answers i c h g text) ⊎ (((c : Call) → ¬ (Asks f c)) × (g ≡ h) × (text ≡ refusal_line refusal.Line i))
+  abbrev pub AnsweredLine : ℕ → Field → History → History → List ℕ → Type 0
+  AnsweredLine i f h g text = ((c : Call) × Asks f c × Answers i c h g text) ⊎ (((c : Call) → ¬ (Asks f c)) × (g ≡ h) × (text ≡ refusal_line refusal.Line i))
 
   -- the lines from line i on, and what no byte 10 ends behind them, after h
   abbrev pub Lists : ℕ → List Field → List ℕ → History → List ℕ → Type 0
   Lists i [] [] h text = text ≡ []
   Lists i [] (b ∷ bs) h text = text ≡ refusal_line refusal.Line i
-  Lists i (f ∷ fs) left h text = (g : History) × ((a : List ℕ) × ((b : List ℕ) × Answered-line i f h g a × Lists (i + 1) fs left g b × (text ≡ a ++ b)))
+  Lists i (f ∷ fs) left h text = (g : History) × ((a : List ℕ) × ((b : List ℕ) × AnsweredLine i f h g a × Lists (i + 1) fs left g b × (text ≡ a ++ b)))
 
   -- the lines of f, from line i on, after h
   abbrev pub Goes_on : ℕ → Field → History → List ℕ → Type 0

@@ -2,7 +2,7 @@
 ghost use Rattle.unit.specs.Seen.{setting, view};
 ghost use Rattle.sheet.specs.Parting.{Within};
 ghost use Rattle.transcript.specs.Serving.{Serves};
-ghost use Rattle.transcript.specs.Transcript.{Answers, Answered-line};
+ghost use Rattle.transcript.specs.Transcript.{Answers, AnsweredLine};
 
 use crate::running::run_out;
 use numbers::{Asks, Coordinate, NumberSystem, Ruled};
@@ -39,7 +39,7 @@ pub fn answer_line<S: NumberSystem, K: Sink>(
     out: &mut K,
 )
     requires { Within line }
-    ensures { Serves K.Sink.lost K.Sink.written (setting S.Ruled.ring S.Ruled.widest S.Kind.Coordinate.loading S.Kind.Coordinate.working) (view S.Kind.Coordinate.value unit.old) (view S.Kind.Coordinate.value unit.new) out.old out.new (λ m h g text. Answered-line (setting S.Ruled.ring S.Ruled.widest S.Kind.Coordinate.loading S.Kind.Coordinate.working) m number line.entry h g text) }
+    ensures { Serves K.Sink.lost K.Sink.written (setting S.Ruled.ring S.Ruled.widest S.Kind.Coordinate.loading S.Kind.Coordinate.working) (view S.Kind.Coordinate.value unit.old) (view S.Kind.Coordinate.value unit.new) out.old out.new (λ m h g text. AnsweredLine (setting S.Ruled.ring S.Ruled.widest S.Kind.Coordinate.loading S.Kind.Coordinate.working) m number line.entry h g text) }
 {
     match asked(line) {
         Some(call) => answer_call(unit, number, call, out),

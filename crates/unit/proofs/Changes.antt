@@ -16,7 +16,7 @@ use Rattle.sets.specs.declared.table.DigitSet.{DigitSet}
 use Rattle.rules.specs.Lists.{without}
 use Rattle.rules.specs.Views.{Setting, Machine, View}
 use Rattle.rules.specs.Table.{Uppermost, Unfit}
-use Rattle.rules.specs.Told.{rows_at, redrawn, Puts, Down-put, Takes}
+use Rattle.rules.specs.Told.{rows_at, redrawn, Puts, DownPut, Takes}
 use Rattle.rules.specs.declared.calls.Standing.{Standing}
 use Rattle.rules.specs.declared.calls.Standing.TheVariants.{Running, Draft}
 use Rattle.rules.specs.declared.calls.Call.TheVariants.{Put}
@@ -49,7 +49,7 @@ module _ {E C : Type 0} (k : Setting) (M : Machine E C) (v w : View E) where
     put_down e l (inr (p, inr (q, inr (r, inl s)))) = inr (s.1, omega (arith, s.0), (idle, (p, (q, (r, tt)))))
     put_down e l (inr (p, inr (q, inr (r, inr s)))) = absurd s.1
 
-    pub put_refused : (e : Refusal) → length v.digits ≤ 128 → Unput k.ring v.width v.digits (elem x y) e → w ≡ v → Down-put k M v w x y e
+    pub put_refused : (e : Refusal) → length v.digits ≤ 128 → Unput k.ring v.width v.digits (elem x y) e → w ≡ v → DownPut k M v w x y e
     put_refused e l u q = record { why = put_down e l u; same = q }
 
     pub puts : (n : ℕ) → Puttable k.ring v.width v.digits (elem x y) → Added a b (elem x y) n → w ≡ redrawn k M v w (width_of b) (held b) Draft None → Puts k M v w x y n

@@ -198,10 +198,10 @@ right_at s (suc v) ds d es = every (rules s) ∷ every (fullness s v ds) ∷ eve
 abbrev pub right? : Case → Bool
 right? c = every (right_at c.system c.width c.digits c.verdict c.shown)
 
-abbrev Right-at : System → ℕ → List Elem → Verdict → List Shown → Type 0
-Right-at s w ds d es = Right (record { system = s; width = w; digits = ds; verdict = d; shown = es })
+abbrev RightAt : System → ℕ → List Elem → Verdict → List Shown → Type 0
+RightAt s w ds d es = Right (record { system = s; width = w; digits = ds; verdict = d; shown = es })
 
-right_at_is : (s : System) (w : ℕ) (ds : List Elem) (d : Verdict) (es : List Shown) → T (every (right_at s w ds d es)) → Right-at s w ds d es
+right_at_is : (s : System) (w : ℕ) (ds : List Elem) (d : Verdict) (es : List Shown) → T (every (right_at s w ds d es)) → RightAt s w ds d es
 right_at_is s zero ds d es h = absurd h
 right_at_is s (suc v) ds d es h =
     let q = every_is (right_at s (suc v) ds d es) h in

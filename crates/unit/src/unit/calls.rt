@@ -1,5 +1,5 @@
 ghost use Rattle.std.specs.Prelude.{◌≡◌, MatchResult};
-ghost use Rattle.rules.specs.Told.{Abandons, Checks, Down, Down-put, Down-tick, Loads, Puts, Takes, Ticks, Widens};
+ghost use Rattle.rules.specs.Told.{Abandons, Checks, Down, DownPut, DownTick, Loads, Puts, Takes, Ticks, Widens};
 ghost use Rattle.unit.specs.Seen.{machine, setting, view};
 
 use crate::parts::{feed, left_by, left_with, matches, served};
@@ -34,7 +34,7 @@ impl<S: NumberSystem, E: PointEngine> Unit<S, E> {
 
     // Adds the digit (x, y), and answers how many are held.
     pub fn put(&mut self, x: i64, y: i64) -> Result<usize, Refusal>
-        ensures told { MatchResult result (Puts (setting S.Ruled.ring S.Ruled.widest S.Kind.Coordinate.loading S.Kind.Coordinate.working) (machine E.PointEngine.meaning E.PointEngine.total_of E.PointEngine.current_of) (view S.Kind.Coordinate.value self.old) (view S.Kind.Coordinate.value self.new) x y) (Down-put (setting S.Ruled.ring S.Ruled.widest S.Kind.Coordinate.loading S.Kind.Coordinate.working) (machine E.PointEngine.meaning E.PointEngine.total_of E.PointEngine.current_of) (view S.Kind.Coordinate.value self.old) (view S.Kind.Coordinate.value self.new) x y) }
+        ensures told { MatchResult result (Puts (setting S.Ruled.ring S.Ruled.widest S.Kind.Coordinate.loading S.Kind.Coordinate.working) (machine E.PointEngine.meaning E.PointEngine.total_of E.PointEngine.current_of) (view S.Kind.Coordinate.value self.old) (view S.Kind.Coordinate.value self.new) x y) (DownPut (setting S.Ruled.ring S.Ruled.widest S.Kind.Coordinate.loading S.Kind.Coordinate.working) (machine E.PointEngine.meaning E.PointEngine.total_of E.PointEngine.current_of) (view S.Kind.Coordinate.value self.old) (view S.Kind.Coordinate.value self.new) x y) }
         ensures system { self.new.system ≡ self.old.system }
     {
         if let Standing::Running = self.standing {
@@ -112,7 +112,7 @@ impl<S: NumberSystem, E: PointEngine> Unit<S, E> {
 
     // Takes one step, feeds its digit to the engine, counts one and answers the digit.
     pub fn tick(&mut self) -> Result<Element<i32>, Refusal>
-        ensures told { MatchResult result (Ticks (setting S.Ruled.ring S.Ruled.widest S.Kind.Coordinate.loading S.Kind.Coordinate.working) (machine E.PointEngine.meaning E.PointEngine.total_of E.PointEngine.current_of) (view S.Kind.Coordinate.value self.old) (view S.Kind.Coordinate.value self.new)) (Down-tick (setting S.Ruled.ring S.Ruled.widest S.Kind.Coordinate.loading S.Kind.Coordinate.working) (machine E.PointEngine.meaning E.PointEngine.total_of E.PointEngine.current_of) (view S.Kind.Coordinate.value self.old) (view S.Kind.Coordinate.value self.new)) }
+        ensures told { MatchResult result (Ticks (setting S.Ruled.ring S.Ruled.widest S.Kind.Coordinate.loading S.Kind.Coordinate.working) (machine E.PointEngine.meaning E.PointEngine.total_of E.PointEngine.current_of) (view S.Kind.Coordinate.value self.old) (view S.Kind.Coordinate.value self.new)) (DownTick (setting S.Ruled.ring S.Ruled.widest S.Kind.Coordinate.loading S.Kind.Coordinate.working) (machine E.PointEngine.meaning E.PointEngine.total_of E.PointEngine.current_of) (view S.Kind.Coordinate.value self.old) (view S.Kind.Coordinate.value self.new)) }
         ensures system { self.new.system ≡ self.old.system }
     {
         let Standing::Running = self.standing else {
