@@ -3,7 +3,8 @@
 
 Run once, at the top of a checkout, after the kit's port.py. Names that are the kit's, names that Rattle makes for goals,
 names that begin with a capital (facts, as in Down-put), and everything in comments and strings stay as they are.
-Prints the names that it turned, and those that fall together.
+Prints the names that it turned. It does not see a name with a colon behind it, nor that two names fall together where one
+of them was in snake case already: docs/PORT.md lists both, which were mended by hand.
 """
 import collections
 import glob
