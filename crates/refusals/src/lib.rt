@@ -2,70 +2,58 @@
 
 #![tactic(auto)]
 
-ghost use Rattle.std.specs.Prelude.{◌≡◌};
+ghost use Rattle.std.specs.Prelude.{◌≡◌, Some};
 ghost use Rattle.refusals.specs.Refusal.{number_of, word_of};
 
-#[derive(Clone, Copy, PartialEq, Eq)]
+use std::error::Error;
+use std::fmt;
+
+#[derive(Clone, Copy, Debug, PartialEq, Eq)]
 pub enum Refusal {
     // A call that changes the set, or a load, while a run is on.
-    Busy,
+    Busy = 1,
     // A width of 0, or above the widest.
-    Width,
+    Width = 2,
     // A coordinate outside −255 to 255.
-    Range,
+    Range = 3,
     // An element that the base divides.
-    Even,
+    Even = 4,
     // A digit of that class is held.
-    Doubled,
+    Doubled = 5,
     // A digit that is not held.
-    Absent,
+    Absent = 6,
     // A set that is not full.
-    Open,
+    Open = 7,
     // A load in draft or barred.
-    Uncleared,
+    Uncleared = 8,
     // The engine's t or n is not the system's.
-    Ring,
+    Ring = 9,
     // An element beyond the loading limit.
-    Long,
+    Long = 10,
     // A tick or an abandon with no run on.
-    Idle,
+    Idle = 11,
     // A modulus outside 2 to 2^31 − 1.
-    Modulus,
+    Modulus = 12,
     // A root, a start, a t or an n that does not fit.
-    Root,
+    Root = 13,
     // A sheet line of no shape.
-    Line,
+    Line = 14,
     // A sheet above 32,768 bytes.
-    Sheet,
+    Sheet = 15,
     // A buffer under 80 bytes.
-    Narrow,
+    Narrow = 16,
+}
+
+// Its number, from 1 to 16.
+impl From<Refusal> for u8 {
+    ghost from_gives = { λ r n. n ≡ number_of r };
+
+    fn from(refusal: Refusal) -> u8 {
+        refusal as u8
+    }
 }
 
 impl Refusal {
-    // Its number, from 1 to 16.
-    pub fn number(self) -> u8
-        ensures { result ≡ number_of self }
-    {
-        match self {
-            Refusal::Busy => 1,
-            Refusal::Width => 2,
-            Refusal::Range => 3,
-            Refusal::Even => 4,
-            Refusal::Doubled => 5,
-            Refusal::Absent => 6,
-            Refusal::Open => 7,
-            Refusal::Uncleared => 8,
-            Refusal::Ring => 9,
-            Refusal::Long => 10,
-            Refusal::Idle => 11,
-            Refusal::Modulus => 12,
-            Refusal::Root => 13,
-            Refusal::Line => 14,
-            Refusal::Sheet => 15,
-            Refusal::Narrow => 16,
-        }
-    }
-
     // Its word.
     pub fn word(self) -> &'static str
         ensures { result.now ≡ word_of self }
@@ -90,3 +78,14 @@ impl Refusal {
         }
     }
 }
+
+// Its word.
+impl fmt::Display for Refusal {
+    ghost output = { λ r. Some (word_of r) };
+
+    fn fmt<W: fmt::Write>(&self, f: &mut fmt::Formatter<W>) -> fmt::Result {
+        f.write_str(self.word())
+    }
+}
+
+impl Error for Refusal {}
