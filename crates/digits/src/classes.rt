@@ -13,7 +13,7 @@ use numbers::{Asks, Coordinate, Element};
 // Whether a is of the digit's class: the difference is divided by the base as often as the width says.
 pub fn same_class<S: Asks<i32>>(system: &S, width: Width, a: Element<i32>, digit: Digit) -> bool
     requires { Below (2 ^ 24) (short a) }
-    ensures { Decides result (SameClass S.Ruled.ring width.places (short a) (elem_of digit)) }
+    ensures { Decides result (SameClass S.ring width.places (short a) (elem_of digit)) }
 {
     let mut rest = system.subtract(&a, digit.element());
     for k in 0..width.places() {
@@ -33,7 +33,7 @@ pub fn digit_of<S: Asks<i32>>(
     a: Element<i32>,
 ) -> Option<Digit>
     requires { Below (2 ^ 24) (short a) }
-    ensures { MatchOption result (Unclassed S.Ruled.ring width.places (elems digits.now) (short a)) (λ d. FirstOf S.Ruled.ring width.places (elems digits.now) (short a) (elem_of d)) }
+    ensures { MatchOption result (Unclassed S.ring width.places (elems digits.now) (short a)) (λ d. FirstOf S.ring width.places (elems digits.now) (short a) (elem_of d)) }
 {
     for d in digits {
         if same_class(system, width, a, *d) {
@@ -45,7 +45,7 @@ pub fn digit_of<S: Asks<i32>>(
 
 // Whether β divides none of the digits.
 pub fn all_odd<S: Asks<i32>>(system: &S, digits: &[Digit]) -> bool
-    ensures { Decides result (AllOdd S.Ruled.ring (elems digits.now)) }
+    ensures { Decides result (AllOdd S.ring (elems digits.now)) }
 {
     for d in digits {
         if system.divides(&d.element()) {

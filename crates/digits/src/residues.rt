@@ -9,7 +9,7 @@ use numbers::{Coordinate, Element, Ruled};
 
 // p^w.
 pub fn modulus<S: Ruled>(system: &S, width: Width) -> u32
-    ensures is { result ≡ S.Ruled.ring.p ^ width.places }
+    ensures is { result ≡ S.ring.p ^ width.places }
     ensures some { 2 ≤ result }
     ensures most { result ≤ 2 ^ 24 }
 {
@@ -23,10 +23,10 @@ pub fn modulus<S: Ruled>(system: &S, width: Width) -> u32
 
 // An element of z's class with both magnitudes below p^w; z less it is no farther from 0 than z.
 pub fn residue<C: Coordinate, S: Ruled>(system: &S, width: Width, z: Element<C>) -> Element<i32>
-    requires { Below C.Coordinate.working (meaning C.Coordinate.value z) }
+    requires { Below C.WORKING (meaning C.value z) }
     ensures small { Below (2 ^ 24) (short result) }
-    ensures class { SameClass S.Ruled.ring width.places (meaning C.Coordinate.value z) (short result) }
-    ensures inward { Below C.Coordinate.working (sub (meaning C.Coordinate.value z) (short result)) }
+    ensures class { SameClass S.ring width.places (meaning C.value z) (short result) }
+    ensures inward { Below C.WORKING (sub (meaning C.value z) (short result)) }
 {
     z.rest(modulus(system, width) as i32)
 }

@@ -20,11 +20,11 @@ pub fn remainder<C: Coordinate, S: Asks<C> + Asks<i32>>(
     near: Element<i32>,
     digit: Digit,
 ) -> Element<C>
-    requires inward { Below C.Coordinate.working (sub (meaning C.Coordinate.value z) (short near)) }
+    requires inward { Below C.WORKING (sub (meaning C.value z) (short near)) }
     requires small { Below (2 ^ 24) (short near) }
-    requires far { Even S.Ruled.ring (sub (meaning C.Coordinate.value z) (short near)) }
-    requires close { Even S.Ruled.ring (sub (short near) (elem_of digit)) }
-    ensures { mul S.Ruled.ring S.Ruled.ring.β (meaning C.Coordinate.value result) ≡ sub (meaning C.Coordinate.value z) (elem_of digit) }
+    requires far { Even S.ring (sub (meaning C.value z) (short near)) }
+    requires close { Even S.ring (sub (short near) (elem_of digit)) }
+    ensures { mul S.ring S.ring.β (meaning C.value result) ≡ sub (meaning C.value z) (elem_of digit) }
 {
     let high = system.quotient(&z.minus(Element::from_short(near)));
     let low = system.quotient(&system.subtract(&near, digit.element()));
@@ -39,7 +39,7 @@ pub fn step<C: Coordinate, S: Asks<C> + Asks<i32>>(
     digits: &[Digit],
     z: Element<C>,
 ) -> Option<(Digit, Element<C>)>
-    ensures { MatchOption result (Stuck S.Ruled.ring C.Coordinate.working width.places (elems digits.now) (meaning C.Coordinate.value z)) (λ p. Stepped S.Ruled.ring C.Coordinate.working width.places (elems digits.now) (meaning C.Coordinate.value z) (elem_of p.0) (meaning C.Coordinate.value p.1)) }
+    ensures { MatchOption result (Stuck S.ring C.WORKING width.places (elems digits.now) (meaning C.value z)) (λ p. Stepped S.ring C.WORKING width.places (elems digits.now) (meaning C.value z) (elem_of p.0) (meaning C.value p.1)) }
 {
     if !z.works() {
         return None;

@@ -19,8 +19,8 @@ use word::WordEngine;
 // Restarts the engine, and for each digit adds it and moves on by the base: where the engine is over the system's ring,
 // the total is then the weighted sum of the digits acting on the start point.
 fn drive<S: Ruled, E: PointEngine>(system: &S, engine: &mut E, digits: &[Digit])
-    ensures same { E.PointEngine.meaning engine.new ≡ E.PointEngine.meaning engine.old }
-    ensures total { Over S.Ruled.ring (E.PointEngine.meaning engine.old) → E.PointEngine.total_of engine.new ≡ act (E.PointEngine.meaning engine.old) (weighted S.Ruled.ring (elems digits.now)) (E.PointEngine.meaning engine.old).start }
+    ensures same { E.meaning engine.new ≡ E.meaning engine.old }
+    ensures total { Over S.ring (E.meaning engine.old) → E.total_of engine.new ≡ act (E.meaning engine.old) (weighted S.ring (elems digits.now)) (E.meaning engine.old).start }
 {
     let base = system.parameters().base;
     engine.restart();

@@ -29,8 +29,8 @@ const DEFAULT: Element<i64> = Element { x: 9, y: 0 };
 
 // The digit d plus β times the weighted sum of the higher digits.
 fn lower<C: Coordinate>(d: Digit, sum: Element<C>) -> Element<C>
-    requires { Below C.Coordinate.working (meaning C.Coordinate.value sum) }
-    ensures { meaning C.Coordinate.value result ≡ add (elem_of d) (mul kp kp.β (meaning C.Coordinate.value sum)) }
+    requires { Below C.WORKING (meaning C.value sum) }
+    ensures { meaning C.value result ≡ add (elem_of d) (mul kp kp.β (meaning C.value sum)) }
 {
     let e = Element::<C>::from_short(d.element());
     Element {

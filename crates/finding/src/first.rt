@@ -10,8 +10,8 @@ use rounds::{Course, Dynamics, walk};
 
 // How the trail of (x, y) goes, if its norm is `norm`.
 pub fn tried<D: Dynamics>(d: &D, norm: u32, x: i32, y: i32) -> Course
-    requires { (unsigned_abs x < 2048) × ((unsigned_abs y < 2048) × (norm ≤ D.Dynamics.cap d.now)) }
-    ensures { Tried (D.Dynamics.next d.now) (D.Dynamics.ring d.now) norm (point x y) result }
+    requires { (unsigned_abs x < 2048) × ((unsigned_abs y < 2048) × (norm ≤ D.cap d.now)) }
+    ensures { Tried (D.next d.now) (D.ring d.now) norm (point x y) result }
 {
     let z = Element { x, y };
     if d.norm(z) == norm {
@@ -24,8 +24,8 @@ pub fn tried<D: Dynamics>(d: &D, norm: u32, x: i32, y: i32) -> Course
 // The first element, by norm, x and y, that does not come to 0, of those of norm at most `bound`.
 // The x and y loops run only at a norm where the sifted shells hold an element that never falls.
 pub fn search<D: Dynamics>(d: &D, bound: u32) -> Verdict
-    requires { bound ≤ D.Dynamics.cap d.now }
-    ensures { Judged (D.Dynamics.next d.now) (D.Dynamics.ring d.now) bound result }
+    requires { bound ≤ D.cap d.now }
+    ensures { Judged (D.next d.now) (D.ring d.now) bound result }
 {
     let mut found = Verdict::Cleared;
     let mut clear: u32 = 1;

@@ -26,10 +26,10 @@ pub fn reach(top: u32) -> i32
 // The norm of (x, y) if it lies from `from` below `least` and the trail of (x, y) never falls, else `least`.
 pub fn lowered<D: Dynamics>(d: &D, from: u32, least: u32, x: i32, y: i32) -> u32
     requires near { (unsigned_abs x < 2048) × (unsigned_abs y < 2048) }
-    requires small { least ≤ D.Dynamics.cap d.now + 1 }
+    requires small { least ≤ D.cap d.now + 1 }
     ensures down { result ≤ least }
     ensures from { from ≤ least → from ≤ result }
-    ensures falls { from ≤ size (D.Dynamics.ring d.now) (point x y) → size (D.Dynamics.ring d.now) (point x y) < result → Falls (D.Dynamics.next d.now) (D.Dynamics.ring d.now) (point x y) }
+    ensures falls { from ≤ size (D.ring d.now) (point x y) → size (D.ring d.now) (point x y) < result → Falls (D.next d.now) (D.ring d.now) (point x y) }
 {
     let z = Element { x, y };
     let n = d.norm(z);
@@ -45,10 +45,10 @@ pub fn lowered<D: Dynamics>(d: &D, from: u32, least: u32, x: i32, y: i32) -> u32
 // `least`, lowered by every (x, y) with y from −c to c.
 pub fn column<D: Dynamics>(d: &D, from: u32, least: u32, x: i32, c: i32) -> u32
     requires near { (unsigned_abs x < 2048) × ((pos 0 ≤ℤ c) × (c ≤ℤ pos 2046)) }
-    requires small { least ≤ D.Dynamics.cap d.now + 1 }
+    requires small { least ≤ D.cap d.now + 1 }
     ensures down { result ≤ least }
     ensures from { from ≤ least → from ≤ result }
-    ensures falls { Column (D.Dynamics.next d.now) (D.Dynamics.ring d.now) from result c x }
+    ensures falls { Column (D.next d.now) (D.ring d.now) from result c x }
 {
     let low = -c;
     let high = c + 1;
@@ -61,10 +61,10 @@ pub fn column<D: Dynamics>(d: &D, from: u32, least: u32, x: i32, c: i32) -> u32
 
 // The least norm, from `from` to `top`, of an element whose trail never falls, or top + 1.
 pub fn sift<D: Dynamics>(d: &D, from: u32, top: u32) -> u32
-    requires { (top ≤ D.Dynamics.cap d.now) × (from ≤ top + 1) }
+    requires { (top ≤ D.cap d.now) × (from ≤ top + 1) }
     ensures down { result ≤ top + 1 }
     ensures from { from ≤ result }
-    ensures falls { Shell (D.Dynamics.next d.now) (D.Dynamics.ring d.now) from result }
+    ensures falls { Shell (D.next d.now) (D.ring d.now) from result }
 {
     let c = reach(top);
     let low = -c;
@@ -78,10 +78,10 @@ pub fn sift<D: Dynamics>(d: &D, from: u32, top: u32) -> u32
 
 // A norm below which every element comes to 0: `clear` where that is above `norm`, else from the shell of the norms up to twice `norm`.
 pub fn cleared_to<D: Dynamics>(d: &D, clear: u32, norm: u32, bound: u32) -> u32
-    requires small { (bound ≤ D.Dynamics.cap d.now) × ((norm ≤ bound) × (clear ≤ bound + 1)) }
-    requires ends { (Inner (D.Dynamics.next d.now) (D.Dynamics.ring d.now) norm) × (Inner (D.Dynamics.next d.now) (D.Dynamics.ring d.now) clear) }
+    requires small { (bound ≤ D.cap d.now) × ((norm ≤ bound) × (clear ≤ bound + 1)) }
+    requires ends { (Inner (D.next d.now) (D.ring d.now) norm) × (Inner (D.next d.now) (D.ring d.now) clear) }
     ensures down { result ≤ bound + 1 }
-    ensures ends { Inner (D.Dynamics.next d.now) (D.Dynamics.ring d.now) result }
+    ensures ends { Inner (D.next d.now) (D.ring d.now) result }
 {
     if norm < clear {
         return clear;

@@ -7,81 +7,90 @@ ghost use Rattle.numbers.specs.Question.{rests};
 
 use crate::kinds::Coordinate;
 
-// An element, by its two coordinates.
-#[derive(Clone, Copy)]
+// An element, by its two coordinates. Elements are in order by x, then by y.
+#[derive(Clone, Copy, Debug, PartialEq, Eq, PartialOrd, Ord)]
 pub struct Element<C> {
     pub x: C,
     pub y: C,
 }
 
 impl<C: Coordinate> Element<C> {
+    // The element 0.
+    pub fn zero() -> Self
+        ensures { meaning C.value result ≡ 𝟘 }
+    {
+        Element {
+            x: C::from(0),
+            y: C::from(0),
+        }
+    }
+
     // Whether the element is 0.
     pub fn is_zero(self) -> bool
-        ensures { Decides result (meaning C.Coordinate.value self ≡ 𝟘) }
+        ensures { Decides result (meaning C.value self ≡ 𝟘) }
     {
-        self.x.same(C::from_short(0)) && self.y.same(C::from_short(0))
+        self == Element::zero()
     }
 
     // Whether both coordinates may be loaded.
     pub fn loads(self) -> bool
-        ensures { Decides result (Below C.Coordinate.loading (meaning C.Coordinate.value self)) }
+        ensures { Decides result (Below C.LOADING (meaning C.value self)) }
     {
         self.x.loads() && self.y.loads()
     }
 
     // Whether both coordinates may be worked with.
     pub fn works(self) -> bool
-        ensures { Decides result (Below C.Coordinate.working (meaning C.Coordinate.value self)) }
+        ensures { Decides result (Below C.WORKING (meaning C.value self)) }
     {
         self.x.works() && self.y.works()
     }
 
-    // The same element at this kind.
+    // The same element at this kind. `From` cannot say it: at the short kind it would be the conversion of a type to itself, which std has.
     pub fn from_short(z: Element<i32>) -> Self
-        ensures { meaning C.Coordinate.value result ≡ short z }
+        ensures { meaning C.value result ≡ short z }
     {
         Element {
-            x: C::from_short(z.x),
-            y: C::from_short(z.y),
+            x: C::from(z.x),
+            y: C::from(z.y),
         }
     }
 
     // The element of long coordinates at this kind, if it may be loaded.
     pub fn load(z: Element<i64>) -> Option<Self>
-        ensures { MatchOption result (Below C.Coordinate.loading (short z) → ⊥) (λ e. Below C.Coordinate.loading (short z) × (meaning C.Coordinate.value e ≡ short z)) }
+        ensures { MatchOption result (Below C.LOADING (short z) → ⊥) (λ e. Below C.LOADING (short z) × (meaning C.value e ≡ short z)) }
     {
-        match (C::load(z.x), C::load(z.y)) {
-            (Some(x), Some(y)) => Some(Element { x, y }),
-            _ => None,
-        }
+        let x = C::load(z.x)?;
+        let y = C::load(z.y)?;
+        Some(Element { x, y })
     }
 
     // The sum.
     pub fn plus(self, other: Self) -> Self
-        requires { Below (8 * C.Coordinate.working) (add (meaning C.Coordinate.value self) (meaning C.Coordinate.value other)) }
-        ensures { meaning C.Coordinate.value result ≡ add (meaning C.Coordinate.value self) (meaning C.Coordinate.value other) }
+        requires { Below (8 * C.WORKING) (add (meaning C.value self) (meaning C.value other)) }
+        ensures { meaning C.value result ≡ add (meaning C.value self) (meaning C.value other) }
     {
         Element {
-            x: self.x.plus(other.x),
-            y: self.y.plus(other.y),
+            x: self.x + other.x,
+            y: self.y + other.y,
         }
     }
 
     // The difference.
     pub fn minus(self, other: Self) -> Self
-        requires { Below (8 * C.Coordinate.working) (sub (meaning C.Coordinate.value self) (meaning C.Coordinate.value other)) }
-        ensures { meaning C.Coordinate.value result ≡ sub (meaning C.Coordinate.value self) (meaning C.Coordinate.value other) }
+        requires { Below (8 * C.WORKING) (sub (meaning C.value self) (meaning C.value other)) }
+        ensures { meaning C.value result ≡ sub (meaning C.value self) (meaning C.value other) }
     {
         Element {
-            x: self.x.minus(other.x),
-            y: self.y.minus(other.y),
+            x: self.x - other.x,
+            y: self.y - other.y,
         }
     }
 
     // The remainders of both coordinates.
     pub fn rest(self, divisor: i32) -> Element<i32>
         requires { pos 2 ≤ℤ divisor }
-        ensures { short result ≡ rests (meaning C.Coordinate.value self) divisor }
+        ensures { short result ≡ rests (meaning C.value self) divisor }
     {
         Element {
             x: self.x.rest(divisor),

@@ -1,47 +1,47 @@
 // The two kinds of coordinates, short and long, and their limits.
 
-ghost use Rattle.std.specs.Prelude.{◌≡◌, ℕ, ◌*◌, ◌^◌, ◌<◌, ◌≤◌, ℤ, pos, ◌+ℤ◌, ◌-ℤ◌, ◌≤ℤ◌, Decides, MatchOption, int_div, int_rem, unsigned_abs};
+ghost use Rattle.std.specs.Prelude.{◌≡◌, ℕ, ◌*◌, ◌^◌, ◌<◌, ◌≤◌, ℤ, pos, ◌+ℤ◌, ◌-ℤ◌, ◌≤ℤ◌, ◌↔◌, Decides, IsTrue, MatchOption, int_div, int_rem, unsigned_abs};
 ghost use Rattle.numbers.specs.Kinds.{short_loading, short_working, long_loading, long_working};
 ghost use Rattle.std.proofs.Common.{rules};
 
+use std::ops::{Add, Sub};
+
 // A signed number of some width, by the whole number `value` that it stands for.
-// Magnitudes below `loading` may be loaded, work stays below `working`, and sums and differences may reach eight times that.
-pub trait Coordinate: Copy {
+// Equality, the conversion from a short number, sums and differences are those of the whole numbers, as the laws below say.
+pub trait Coordinate: Copy + PartialEq + From<i32> + Add<Output = Self> + Sub<Output = Self> {
     ghost value: { Self → ℤ };
 
-    ghost loading: { ℕ };
+    ghost LOADING: { ℕ };
 
-    ghost working: { ℕ };
+    ghost WORKING: { ℕ };
 
-    // The coordinate that stands for a short number.
-    fn from_short(v: i32) -> Self
-        ensures { value result ≡ v };
+    // Magnitudes below this may be loaded.
+    const LOADING: u64;
 
-    // Whether two coordinates stand for one number.
-    fn same(self, other: Self) -> bool
-        ensures { Decides result (value self ≡ value other) };
+    // Work stays below this, and sums and differences may reach eight times as far.
+    const WORKING: u64;
+
+    // The magnitude.
+    fn magnitude(self) -> u64
+        ensures { result ≡ unsigned_abs (value self) };
 
     // Whether the coordinate may be loaded.
     fn loads(self) -> bool
-        ensures { Decides result (unsigned_abs (value self) < loading) };
+        ensures { Decides result (unsigned_abs (value self) < LOADING) }
+    {
+        self.magnitude() < Self::LOADING
+    }
 
     // Whether the coordinate may be worked with.
     fn works(self) -> bool
-        ensures { Decides result (unsigned_abs (value self) < working) };
+        ensures { Decides result (unsigned_abs (value self) < WORKING) }
+    {
+        self.magnitude() < Self::WORKING
+    }
 
     // The coordinate that stands for a long number, if that may be loaded.
     fn load(v: i64) -> Option<Self>
-        ensures { MatchOption result (unsigned_abs v < loading → ⊥) (λ c. (unsigned_abs v < loading) × (value c ≡ v)) };
-
-    // The sum.
-    fn plus(self, other: Self) -> Self
-        requires { unsigned_abs (value self +ℤ value other) < 8 * working }
-        ensures { value result ≡ value self +ℤ value other };
-
-    // The difference.
-    fn minus(self, other: Self) -> Self
-        requires { unsigned_abs (value self -ℤ value other) < 8 * working }
-        ensures { value result ≡ value self -ℤ value other };
+        ensures { MatchOption result (unsigned_abs v < LOADING → ⊥) (λ c. (unsigned_abs v < LOADING) × (value c ≡ v)) };
 
     // The quotient, towards 0.
     fn over(self, divisor: i32) -> Self
@@ -55,56 +55,55 @@ pub trait Coordinate: Copy {
 
     ghost apart: { (a b : Self) → value a ≡ value b → a ≡ b };
 
-    ghost limits: { (1024 ≤ loading) × (16 * loading ≤ working) × (2 ^ 28 ≤ working) × (loading ≤ 2 ^ 56) };
+    ghost same: { (a b : Self) → IsTrue (Self.eq a b) ↔ (value a ≡ value b) };
+
+    ghost from_short: { (v : ℤ) (c : Self) → Self.from_gives v c → value c ≡ v };
+
+    ghost has_sum: { (a b : Self) → unsigned_abs (value a +ℤ value b) < 8 * WORKING → Self.can_add a b };
+
+    ghost sum: { (a b c : Self) → Self.add_gives a b c → value c ≡ value a +ℤ value b };
+
+    ghost has_difference: { (a b : Self) → unsigned_abs (value a -ℤ value b) < 8 * WORKING → Self.can_sub a b };
+
+    ghost difference: { (a b c : Self) → Self.sub_gives a b c → value c ≡ value a -ℤ value b };
+
+    ghost limits: { (1024 ≤ LOADING) × (16 * LOADING ≤ WORKING) × (2 ^ 28 ≤ WORKING) × (LOADING ≤ 2 ^ 56) };
 }
-
-// Short numbers below this in magnitude may be loaded.
-const SHORT_LOADING: i32 = 1 << 24;
-
-// Short numbers below this in magnitude may be worked with.
-const SHORT_WORKING: i32 = 1 << 28;
 
 // The short kind: 32 bits.
 impl Coordinate for i32 {
     ghost value = { λ x. x };
 
-    ghost loading = { short_loading };
+    ghost LOADING = { short_loading };
 
-    ghost working = { short_working };
+    ghost WORKING = { short_working };
 
     ghost apart = { Prim.search rules };
 
+    ghost same = { Prim.search rules };
+
+    ghost from_short = { Prim.search rules };
+
+    ghost has_sum = { Prim.search rules };
+
+    ghost sum = { Prim.search rules };
+
+    ghost has_difference = { Prim.search rules };
+
+    ghost difference = { Prim.search rules };
+
     ghost limits = { Prim.search rules };
 
-    fn from_short(v: i32) -> i32 {
-        v
-    }
+    const LOADING: u64 = 1 << 24;
 
-    fn same(self, other: i32) -> bool {
-        self == other
-    }
+    const WORKING: u64 = 1 << 28;
 
-    fn loads(self) -> bool {
-        -SHORT_LOADING < self && self < SHORT_LOADING
-    }
-
-    fn works(self) -> bool {
-        -SHORT_WORKING < self && self < SHORT_WORKING
+    fn magnitude(self) -> u64 {
+        u64::from(self.unsigned_abs())
     }
 
     fn load(v: i64) -> Option<i32> {
-        if -(SHORT_LOADING as i64) < v && v < SHORT_LOADING as i64 {
-            return Some(v as i32);
-        }
-        None
-    }
-
-    fn plus(self, other: i32) -> i32 {
-        self + other
-    }
-
-    fn minus(self, other: i32) -> i32 {
-        self - other
+        i32::try_from(v).ok().filter(|c| c.loads())
     }
 
     fn over(self, divisor: i32) -> i32 {
@@ -116,57 +115,47 @@ impl Coordinate for i32 {
     }
 }
 
-// Long numbers below this in magnitude may be loaded.
-const LONG_LOADING: i64 = 1 << 48;
-
-// Long numbers below this in magnitude may be worked with.
-const LONG_WORKING: i64 = 1 << 52;
-
 // The long kind: 64 bits.
 impl Coordinate for i64 {
     ghost value = { λ x. x };
 
-    ghost loading = { long_loading };
+    ghost LOADING = { long_loading };
 
-    ghost working = { long_working };
+    ghost WORKING = { long_working };
 
     ghost apart = { Prim.search rules };
 
+    ghost same = { Prim.search rules };
+
+    ghost from_short = { Prim.search rules };
+
+    ghost has_sum = { Prim.search rules };
+
+    ghost sum = { Prim.search rules };
+
+    ghost has_difference = { Prim.search rules };
+
+    ghost difference = { Prim.search rules };
+
     ghost limits = { Prim.search rules };
 
-    fn from_short(v: i32) -> i64 {
-        v as i64
-    }
+    const LOADING: u64 = 1 << 48;
 
-    fn same(self, other: i64) -> bool {
-        self == other
-    }
+    const WORKING: u64 = 1 << 52;
 
-    fn loads(self) -> bool {
-        -LONG_LOADING < self && self < LONG_LOADING
-    }
-
-    fn works(self) -> bool {
-        -LONG_WORKING < self && self < LONG_WORKING
+    fn magnitude(self) -> u64 {
+        self.unsigned_abs()
     }
 
     fn load(v: i64) -> Option<i64> {
-        if v.loads() { Some(v) } else { None }
-    }
-
-    fn plus(self, other: i64) -> i64 {
-        self + other
-    }
-
-    fn minus(self, other: i64) -> i64 {
-        self - other
+        Some(v).filter(|c| c.loads())
     }
 
     fn over(self, divisor: i32) -> i64 {
-        self / divisor as i64
+        self / i64::from(divisor)
     }
 
     fn rest(self, divisor: i32) -> i32 {
-        (self % divisor as i64) as i32
+        (self % i64::from(divisor)) as i32
     }
 }

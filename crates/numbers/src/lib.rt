@@ -9,4 +9,4 @@ mod rules;
 
 pub use elements::Element;
 pub use kinds::Coordinate;
-pub use rules::{Asks, NumberSystem, Parameters, Ruled};
+pub use rules::{Asks, NumberSystem, Ruled};

@@ -2,12 +2,10 @@
 
 ghost use Rattle.std.specs.Prelude.{◌≡◌, ◌^◌, ◌<◌, ◌≤◌, ◌+ℤ◌, ◌*ℤ◌, unsigned_abs};
 ghost use Rattle.ring.specs.Elem.{Below};
-ghost use Rattle.ring.specs.System.{norm};
 ghost use Rattle.numbers.specs.Kinds.{short_working};
-ghost use Rattle.numbers.specs.Meaning.{short, ruling};
+ghost use Rattle.numbers.specs.Meaning.{short};
 
 use crate::elements::Element;
-use crate::rules::Parameters;
 
 // The whole product of two short coordinates.
 fn product(a: i32, b: i32) -> i64
@@ -15,7 +13,7 @@ fn product(a: i32, b: i32) -> i64
     ensures is { result ≡ a *ℤ b }
     ensures small { unsigned_abs result ≤ 2 ^ 56 }
 {
-    a as i64 * b as i64
+    i64::from(a) * i64::from(b)
 }
 
 // At most twice such a product.
@@ -24,7 +22,7 @@ fn scaled(k: i32, a: i64) -> i64
     ensures is { result ≡ k *ℤ a }
     ensures small { unsigned_abs result ≤ 2 ^ 57 }
 {
-    k as i64 * a
+    i64::from(k) * a
 }
 
 // The sum of three such numbers.
@@ -36,12 +34,12 @@ fn total(a: i64, b: i64, c: i64) -> i64
 }
 
 // The norm x² + t·x·y + n·y².
-pub fn form(k: Parameters, z: Element<i32>) -> i64
-    requires { (unsigned_abs k.t ≤ 2) × ((unsigned_abs k.n ≤ 2) × (Below short_working (short z))) }
-    ensures { result ≡ norm (ruling k) (short z) }
+pub fn form(t: i32, n: i32, z: Element<i32>) -> i64
+    requires { (unsigned_abs t ≤ 2) × ((unsigned_abs n ≤ 2) × (Below short_working (short z))) }
+    ensures { result ≡ z.x *ℤ z.x +ℤ t *ℤ (z.x *ℤ z.y) +ℤ n *ℤ (z.y *ℤ z.y) }
 {
     let xx = product(z.x, z.x);
     let xy = product(z.x, z.y);
     let yy = product(z.y, z.y);
-    total(xx, scaled(k.t, xy), scaled(k.n, yy))
+    total(xx, scaled(t, xy), scaled(n, yy))
 }

@@ -1,29 +1,31 @@
 // What a number system is, and what it answers.
 
-ghost use Rattle.std.specs.Prelude.{◌≡◌, ℕ, Decides};
+ghost use Rattle.std.specs.Prelude.{◌≡◌, ℕ, ℤ, Decides};
 ghost use Rattle.ring.specs.Elem.{Below, sub};
 ghost use Rattle.ring.specs.System.{System, Lawful, Widths, norm};
 ghost use Rattle.ring.specs.Class.{Even, InRange};
 ghost use Rattle.numbers.specs.Kinds.{short_working};
 ghost use Rattle.numbers.specs.Meaning.{meaning, short, ruling};
 ghost use Rattle.numbers.specs.Question.{Quotient};
+ghost use Rattle.numbers.specs.declared.elements.Element.{Element};
 
 use crate::elements::Element;
 use crate::kinds::Coordinate;
 use crate::norms::form;
 
-// The numbers of a system, in one value: θ² = tθ − n, the base and its norm p, and the widest width.
-#[derive(Clone, Copy)]
-pub struct Parameters {
-    pub t: i32,
-    pub n: i32,
-    pub base: Element<i32>,
-    pub p: u32,
-    pub widest: u32,
-}
-
-// The numbers of a system. Clauses know them by `ring` and `widest`, and each system shows by `lawful` and `widths` that they serve.
+// The numbers of a system: θ² = tθ − n, the base and its norm p, and the widest width.
+// Clauses know them by the names of the constants and by `ring`, and each system shows by `lawful` and `widths` that they serve.
 pub trait Ruled {
+    ghost TRACE: { ℤ };
+
+    ghost NORM: { ℤ };
+
+    ghost BASE: { Element ℤ };
+
+    ghost BASE_NORM: { ℕ };
+
+    ghost WIDEST: { ℕ };
+
     // t, in θ² = tθ − n.
     const TRACE: i32;
 
@@ -41,34 +43,29 @@ pub trait Ruled {
 
     ghost ring: { System };
 
-    ghost widest: { ℕ };
+    ghost ruled: { ruling TRACE NORM BASE BASE_NORM ≡ ring };
 
     ghost lawful: { Lawful ring };
 
-    ghost widths: { Widths ring.p widest };
-
-    // The constants, in one value that clauses know.
-    fn parameters(&self) -> Parameters
-        ensures ruled { ruling result ≡ ring }
-        ensures wide { result.widest ≡ widest };
+    ghost widths: { Widths ring.p WIDEST };
 }
 
 // The questions that a system answers of elements with coordinates of the kind C.
 pub trait Asks<C: Coordinate>: Ruled {
     // Whether the base divides z.
     fn divides(&self, z: &Element<C>) -> bool
-        requires { Below C.Coordinate.working (meaning C.Coordinate.value z.now) }
-        ensures { Decides result (Even Self.Ruled.ring (meaning C.Coordinate.value z.now)) };
+        requires { Below C.WORKING (meaning C.value z.now) }
+        ensures { Decides result (Even Self.ring (meaning C.value z.now)) };
 
     // z divided by the base, and 0 where the base does not divide z.
     fn quotient(&self, z: &Element<C>) -> Element<C>
-        requires { Below C.Coordinate.working (meaning C.Coordinate.value z.now) }
-        ensures { Quotient Self.Ruled.ring (meaning C.Coordinate.value z.now) (meaning C.Coordinate.value result) };
+        requires { Below C.WORKING (meaning C.value z.now) }
+        ensures { Quotient Self.ring (meaning C.value z.now) (meaning C.value result) };
 
     // z less a digit.
     fn subtract(&self, z: &Element<C>, digit: Element<i32>) -> Element<C>
-        requires { (Below C.Coordinate.working (meaning C.Coordinate.value z.now)) × (InRange (short digit)) }
-        ensures { meaning C.Coordinate.value result ≡ sub (meaning C.Coordinate.value z.now) (short digit) }
+        requires { (Below C.WORKING (meaning C.value z.now)) × (InRange (short digit)) }
+        ensures { meaning C.value result ≡ sub (meaning C.value z.now) (short digit) }
     {
         z.minus(Element::from_short(digit))
     }
@@ -82,8 +79,8 @@ pub trait NumberSystem: Ruled + Asks<i32> + Asks<<Self as NumberSystem>::Kind> {
     // The norm of a short element.
     fn norm_of(&self, z: Element<i32>) -> i64
         requires { Below short_working (short z) }
-        ensures { result ≡ norm Self.Ruled.ring (short z) }
+        ensures { result ≡ norm Self.ring (short z) }
     {
-        form(self.parameters(), z)
+        form(Self::TRACE, Self::NORM, z)
     }
 }

@@ -18,7 +18,7 @@ pub fn expand<C: Coordinate, S: Asks<C> + Asks<i32>>(
     z: Element<C>,
     entries: &mut [Entry<C>],
 ) -> Result<usize, Unexpanded>
-    ensures { Outcome C.Coordinate.value S.Ruled.ring C.Coordinate.working width.places (elems digits.now) (meaning C.Coordinate.value z) entries.old entries.new result }
+    ensures { Outcome C.value S.ring C.WORKING width.places (elems digits.now) (meaning C.value z) entries.old entries.new result }
 {
     if !all_odd(system, digits) {
         return Err(Unexpanded::Even);

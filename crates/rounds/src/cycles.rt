@@ -25,8 +25,8 @@ pub enum Course {
 
 // Follows the trail of z until it comes to an element before z, or returns, by Brent's method: the mark stands at index power − 1.
 pub fn find_cycle<D: Dynamics>(d: &D, z: Element<i32>) -> Option<Cycle>
-    requires { size (D.Dynamics.ring d.now) (short z) ≤ D.Dynamics.cap d.now }
-    ensures { MatchOption result (Falls (D.Dynamics.next d.now) (D.Dynamics.ring d.now) (short z)) (λ c. CycleAt (D.Dynamics.next d.now) (D.Dynamics.ring d.now) (short z) c.from c.period) }
+    requires { size (D.ring d.now) (short z) ≤ D.cap d.now }
+    ensures { MatchOption result (Falls (D.next d.now) (D.ring d.now) (short z)) (λ c. CycleAt (D.next d.now) (D.ring d.now) (short z) c.from c.period) }
 {
     let norm = d.norm(z);
     let mut mark = z;
@@ -55,8 +55,8 @@ pub fn find_cycle<D: Dynamics>(d: &D, z: Element<i32>) -> Option<Cycle>
 
 // z after `count` steps.
 pub fn advance<D: Dynamics>(d: &D, z: Element<i32>, count: u32) -> Element<i32>
-    requires { size (D.Dynamics.ring d.now) (short z) ≤ D.Dynamics.cap d.now }
-    ensures { short result ≡ after (D.Dynamics.next d.now) count (short z) }
+    requires { size (D.ring d.now) (short z) ≤ D.cap d.now }
+    ensures { short result ≡ after (D.next d.now) count (short z) }
 {
     let mut ahead = z;
     for k in 0..count {
@@ -67,9 +67,9 @@ pub fn advance<D: Dynamics>(d: &D, z: Element<i32>, count: u32) -> Element<i32>
 
 // The least number of steps to an element that returns, found by two elements a period apart.
 pub fn lead_of<D: Dynamics>(d: &D, z: Element<i32>, cycle: Cycle) -> u32
-    requires inside { size (D.Dynamics.ring d.now) (short z) ≤ D.Dynamics.cap d.now }
-    requires back { CycleAt (D.Dynamics.next d.now) (D.Dynamics.ring d.now) (short z) cycle.from cycle.period }
-    ensures { LeadIs (D.Dynamics.next d.now) (short z) cycle.from cycle.period result }
+    requires inside { size (D.ring d.now) (short z) ≤ D.cap d.now }
+    requires back { CycleAt (D.next d.now) (D.ring d.now) (short z) cycle.from cycle.period }
+    ensures { LeadIs (D.next d.now) (short z) cycle.from cycle.period result }
 {
     let mut behind = z;
     let mut ahead = advance(d, z, cycle.period);
@@ -85,8 +85,8 @@ pub fn lead_of<D: Dynamics>(d: &D, z: Element<i32>, cycle: Cycle) -> u32
 
 // How the trail of z goes.
 pub fn walk<D: Dynamics>(d: &D, z: Element<i32>) -> Course
-    requires { size (D.Dynamics.ring d.now) (short z) ≤ D.Dynamics.cap d.now }
-    ensures { Runs (D.Dynamics.next d.now) (D.Dynamics.ring d.now) (short z) result }
+    requires { size (D.ring d.now) (short z) ≤ D.cap d.now }
+    ensures { Runs (D.next d.now) (D.ring d.now) (short z) result }
 {
     match find_cycle(d, z) {
         None => Course::Falls,

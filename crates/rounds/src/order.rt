@@ -25,9 +25,9 @@ pub fn earlier(m: u32, a: Element<i32>, n: u32, b: Element<i32>) -> bool
 
 // Whether a comes before b, of norm n.
 pub fn before<D: Dynamics>(d: &D, a: Element<i32>, n: u32, b: Element<i32>) -> bool
-    requires inside { size (D.Dynamics.ring d.now) (short a) ≤ D.Dynamics.cap d.now }
-    requires is { n ≡ size (D.Dynamics.ring d.now) (short b) }
-    ensures { Decides result (Before (D.Dynamics.ring d.now) (short a) (short b)) }
+    requires inside { size (D.ring d.now) (short a) ≤ D.cap d.now }
+    requires is { n ≡ size (D.ring d.now) (short b) }
+    ensures { Decides result (Before (D.ring d.now) (short a) (short b)) }
 {
     earlier(d.norm(a), a, n, b)
 }

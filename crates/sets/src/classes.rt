@@ -12,7 +12,7 @@ use numbers::{Asks, Ruled};
 
 // The number of classes at this width that the base does not divide: p^w / p · (p − 1).
 pub fn class_count<S: Ruled>(system: &S, width: Width) -> u32
-    ensures { result ≡ classesOf S.Ruled.ring.p width.places }
+    ensures { result ≡ classesOf S.ring.p width.places }
 {
     let p = system.parameters().p;
     modulus(system, width) / p * (p - 1)
@@ -20,7 +20,7 @@ pub fn class_count<S: Ruled>(system: &S, width: Width) -> u32
 
 // Whether no two of the digits are of one class.
 pub fn unlike<S: Asks<i32>>(system: &S, width: Width, digits: &[Digit]) -> bool
-    ensures { Decides result (Unlike S.Ruled.ring width.places (elems digits.now)) }
+    ensures { Decides result (Unlike S.ring width.places (elems digits.now)) }
 {
     for i in 0..digits.len() {
         match digit_of(system, width, &digits[..i], digits[i].element()) {

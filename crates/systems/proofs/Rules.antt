@@ -22,17 +22,9 @@ module _ {s : System} {k : Elem → ℤ} {q : Elem → Elem} (rule : Rule s k q)
   pub answers : (a : Elem) (r : Bool) → Decides r (k a ≡ pos 0) → Decides r (Even s a)
   answers a r d = (λ h. (q a, rule.only a (d.0 h)), λ e. d.1 (rule.all a e))
 
-  -- the element b that is m = q a where the base divides, and 0 elsewhere, is the quotient
-  pub quotient : (a b m : Elem) (r : Bool) → Decides r (Even s a) → m ≡ q a → (r ≡ true → b ≡ m) → (r ≡ false → b ≡ 𝟘) → Quotient s a b
-  quotient a b m true d made there elsewhere =
-      let e : mul s s.β b ≡ a = ap (λ w. mul s s.β w) (there refl ∙ made) ∙ rule.only a (rule.all a (d.0 refl)) in
-      record { divided = λ _. e; undivided = λ none. absurd (none (b, e)) }
-  quotient a b m false d made there elsewhere = record { divided = λ e. absurd (false≢true (d.1 e)); undivided = λ _. elsewhere refl }
-
--- t is 1 or −1
-pub by_sign : (P : ℤ → Type 0) (t : ℤ) → nat_abs t ≡ 1 → P (pos 1) → P (negsuc 0) → P t
-by_sign P (pos n) h p m = subst (λ k. P (pos k)) (sym h) p
-by_sign P (negsuc n) h p m = let e : 0 ≡ n = omega arith in subst (λ k. P (negsuc k)) e m
+  -- the element m = q a is the quotient where the base divides
+  pub quotient : (a m : Elem) → Even s a → m ≡ q a → Quotient s a m
+  quotient a m e made = record { divided = λ d. ap (λ w. mul s s.β w) made ∙ rule.only a (rule.all a d); undivided = λ none. absurd (none e) }
 
 -- by θ, whatever t is
 pub theta_rule : (t : ℤ) → Rule (theta t) (λ a. rem_z a.x (pos 2)) (halved t)

@@ -1,6 +1,6 @@
 // Any system at the short kind.
 
-use numbers::{Asks, Coordinate, Element, NumberSystem, Parameters, Ruled};
+use numbers::{Asks, Coordinate, Element, NumberSystem, Ruled};
 
 // The system S with short coordinates as its own kind.
 #[derive(Clone, Copy)]
@@ -8,6 +8,16 @@ pub struct AtShort<S>(pub S);
 
 // The numbers of S.
 impl<S: Ruled> Ruled for AtShort<S> {
+    ghost TRACE = { S.TRACE };
+
+    ghost NORM = { S.NORM };
+
+    ghost BASE = { S.BASE };
+
+    ghost BASE_NORM = { S.BASE_NORM };
+
+    ghost WIDEST = { S.WIDEST };
+
     const TRACE: i32 = S::TRACE;
 
     const NORM: i32 = S::NORM;
@@ -18,17 +28,13 @@ impl<S: Ruled> Ruled for AtShort<S> {
 
     const WIDEST: u32 = S::WIDEST;
 
-    ghost ring = { S.Ruled.ring };
+    ghost ring = { S.ring };
 
-    ghost widest = { S.Ruled.widest };
+    ghost ruled = { S.ruled };
 
-    ghost lawful = { S.Ruled.lawful };
+    ghost lawful = { S.lawful };
 
-    ghost widths = { S.Ruled.widths };
-
-    fn parameters(&self) -> Parameters {
-        self.0.parameters()
-    }
+    ghost widths = { S.widths };
 }
 
 // The answers of S, at every kind that S answers of.

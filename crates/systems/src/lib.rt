@@ -5,11 +5,8 @@
 mod adapter;
 mod choice;
 mod five;
-mod minus;
-mod plus;
 mod theta;
 
 pub use adapter::AtShort;
 pub use five::G5;
-pub use minus::Km;
-pub use plus::Kp;
+pub use theta::{KM, KP, Km, Kp, Minus, Plus, Sign, Theta};

@@ -1,30 +1,30 @@
 // The quotients of all elements with coordinates from −8 to 8, in each system at both kinds.
 
-use numbers::{Asks, Coordinate, Element, Parameters, Ruled};
+use numbers::{Asks, Coordinate, Element, Ruled};
 use std::process::Abort;
 use std::test::Fail;
-use systems::{AtShort, G5, Km, Kp};
+use systems::{AtShort, G5, KM, KP};
 
 // The product of two small elements.
-fn times(k: Parameters, a: Element<i32>, b: Element<i32>) -> Element<i32> {
+fn times<S: Ruled>(a: Element<i32>, b: Element<i32>) -> Element<i32> {
     let yy = a.y.wrapping_mul(b.y);
     Element {
-        x: a.x.wrapping_mul(b.x).wrapping_sub(k.n.wrapping_mul(yy)),
+        x: a.x.wrapping_mul(b.x).wrapping_sub(S::NORM.wrapping_mul(yy)),
         y: a.x
             .wrapping_mul(b.y)
             .wrapping_add(a.y.wrapping_mul(b.x))
-            .wrapping_add(k.t.wrapping_mul(yy)),
+            .wrapping_add(S::TRACE.wrapping_mul(yy)),
     }
 }
 
 // Whether the base divides a small element: p divides its product with the base's conjugate.
-fn divisible(k: Parameters, z: Element<i32>) -> bool {
+fn divisible<S: Ruled>(z: Element<i32>) -> bool {
     let conjugate = Element {
-        x: k.base.x.wrapping_add(k.t.wrapping_mul(k.base.y)),
-        y: k.base.y.wrapping_neg(),
+        x: S::BASE.x.wrapping_add(S::TRACE.wrapping_mul(S::BASE.y)),
+        y: S::BASE.y.wrapping_neg(),
     };
-    let multiple = times(k, conjugate, z);
-    match i32::try_from(k.p) {
+    let multiple = times::<S>(conjugate, z);
+    match i32::try_from(S::BASE_NORM) {
         Ok(p) if p > 1 => multiple.x % p == 0 && multiple.y % p == 0,
         _ => false,
     }
@@ -40,24 +40,22 @@ fn answers<C: Coordinate, S: Asks<C>>(
     if !z.works() {
         return Err(Fail::new("the element is too large"));
     }
-    let k = s.parameters();
     let q = s.quotient(&z).rest(1000);
     let divides = s.divides(&z);
-    assert_eq!(rt; divides, divisible(k, small), "whether the base divides");
-    let back = times(k, k.base, q);
+    assert_eq!(rt; divides, divisible::<S>(small), "whether the base divides");
     if divides {
-        assert!(rt;
-            back.x == small.x && back.y == small.y,
+        assert_eq!(rt;
+            times::<S>(S::BASE, q),
+            small,
             "the quotient times the base"
         );
-        Ok(())
     } else {
-        assert!(rt; q.x == 0 && q.y == 0, "no quotient");
-        Ok(())
+        assert_eq!(rt; q, Element { x: 0, y: 0 }, "no quotient");
     }
+    Ok(())
 }
 
-// The answers about all small elements.
+// The answers about all small elements at one kind.
 fn all_answers<C: Coordinate, S: Asks<C>>(rt: &impl Abort, s: &S) -> Result<(), Fail> {
     for x in -8..9 {
         for y in -8..9 {
@@ -67,23 +65,24 @@ fn all_answers<C: Coordinate, S: Asks<C>>(rt: &impl Abort, s: &S) -> Result<(), 
     Ok(())
 }
 
+// The answers at both kinds, and through the adapter.
+fn at_all_kinds<S: Asks<i32> + Asks<i64> + Copy>(rt: &impl Abort, s: S) -> Result<(), Fail> {
+    all_answers::<i32, S>(rt, &s)?;
+    all_answers::<i64, S>(rt, &s)?;
+    all_answers::<i32, AtShort<S>>(rt, &AtShort(s))
+}
+
 #[test]
 fn kp_quotients(rt: HostRuntime) -> Result<(), Fail> {
-    all_answers::<i32, Kp>(&rt, &Kp)?;
-    all_answers::<i64, Kp>(&rt, &Kp)?;
-    all_answers::<i32, AtShort<Kp>>(&rt, &AtShort(Kp))
+    at_all_kinds(&rt, KP)
 }
 
 #[test]
 fn km_quotients(rt: HostRuntime) -> Result<(), Fail> {
-    all_answers::<i32, Km>(&rt, &Km)?;
-    all_answers::<i64, Km>(&rt, &Km)?;
-    all_answers::<i32, AtShort<Km>>(&rt, &AtShort(Km))
+    at_all_kinds(&rt, KM)
 }
 
 #[test]
 fn g5_quotients(rt: HostRuntime) -> Result<(), Fail> {
-    all_answers::<i32, G5>(&rt, &G5)?;
-    all_answers::<i64, G5>(&rt, &G5)?;
-    all_answers::<i32, AtShort<G5>>(&rt, &AtShort(G5))
+    at_all_kinds(&rt, G5)
 }

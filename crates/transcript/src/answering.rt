@@ -22,7 +22,7 @@ fn answer_call<S: NumberSystem, K: Sink>(
     call: Call,
     out: &mut K,
 )
-    ensures { Serves K.Sink.lost K.Sink.written (setting S.Ruled.ring S.Ruled.widest S.Kind.Coordinate.loading S.Kind.Coordinate.working) (view S.Kind.Coordinate.value unit.old) (view S.Kind.Coordinate.value unit.new) out.old out.new (λ m h g text. Answers (setting S.Ruled.ring S.Ruled.widest S.Kind.Coordinate.loading S.Kind.Coordinate.working) m number call h g text) }
+    ensures { Serves K.Sink.lost K.Sink.written (setting S.ring S.WIDEST S.Kind.LOADING S.Kind.WORKING) (view S.Kind.value unit.old) (view S.Kind.value unit.new) out.old out.new (λ m h g text. Answers (setting S.ring S.WIDEST S.Kind.LOADING S.Kind.WORKING) m number call h g text) }
 {
     let answer = unit.perform(call);
     print(out, number, call, answer);
@@ -39,7 +39,7 @@ pub fn answer_line<S: NumberSystem, K: Sink>(
     out: &mut K,
 )
     requires { Within line }
-    ensures { Serves K.Sink.lost K.Sink.written (setting S.Ruled.ring S.Ruled.widest S.Kind.Coordinate.loading S.Kind.Coordinate.working) (view S.Kind.Coordinate.value unit.old) (view S.Kind.Coordinate.value unit.new) out.old out.new (λ m h g text. AnsweredLine (setting S.Ruled.ring S.Ruled.widest S.Kind.Coordinate.loading S.Kind.Coordinate.working) m number line.entry h g text) }
+    ensures { Serves K.Sink.lost K.Sink.written (setting S.ring S.WIDEST S.Kind.LOADING S.Kind.WORKING) (view S.Kind.value unit.old) (view S.Kind.value unit.new) out.old out.new (λ m h g text. AnsweredLine (setting S.ring S.WIDEST S.Kind.LOADING S.Kind.WORKING) m number line.entry h g text) }
 {
     match asked(line) {
         Some(call) => answer_call(unit, number, call, out),

@@ -22,7 +22,7 @@ pub fn follow<S: NumberSystem, K: Sink>(
     out: &mut K,
 )
     requires { (Within lines) × (length (bytes lines) ≤ longest) }
-    ensures { Serves K.Sink.lost K.Sink.written (setting S.Ruled.ring S.Ruled.widest S.Kind.Coordinate.loading S.Kind.Coordinate.working) (view S.Kind.Coordinate.value unit.old) (view S.Kind.Coordinate.value unit.new) out.old out.new (λ m h g text. Goes_on (setting S.Ruled.ring S.Ruled.widest S.Kind.Coordinate.loading S.Kind.Coordinate.working) m 2 lines.entry h text) }
+    ensures { Serves K.Sink.lost K.Sink.written (setting S.ring S.WIDEST S.Kind.LOADING S.Kind.WORKING) (view S.Kind.value unit.old) (view S.Kind.value unit.new) out.old out.new (λ m h g text. Goes_on (setting S.ring S.WIDEST S.Kind.LOADING S.Kind.WORKING) m 2 lines.entry h text) }
 {
     let mut left = lines;
     let mut number: u32 = 2;

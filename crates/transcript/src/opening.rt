@@ -28,7 +28,7 @@ const LONGEST: usize = 32768;
 // The residue engine that a first line chooses for a system, or the refusal that it gets.
 fn engine_for<S: Ruled>(system: &S, choice: Choice) -> Result<ResidueEngine, Refusal>
     requires { Fitting choice }
-    ensures { Made S.Ruled.ring.t S.Ruled.ring.n (pos choice.modulus) (pos choice.root) (pos choice.start) result }
+    ensures { Made S.ring.t S.ring.n (pos choice.modulus) (pos choice.root) (pos choice.start) result }
 {
     let k = system.parameters();
     ResidueEngine::new(
@@ -45,7 +45,7 @@ fn start<S: NumberSystem, K: Sink>(system: S, choice: Choice, rest: Field, out: 
 where
     S: Drop,
     requires { (Fitting choice) × ((Within rest) × (length (bytes rest) ≤ longest)) }
-    ensures { (text : List ℕ) × Starts (setting S.Ruled.ring S.Ruled.widest S.Kind.Coordinate.loading S.Kind.Coordinate.working) choice.modulus choice.root choice.start rest.entry text × Given K.Sink.lost K.Sink.written out.old out.new text }
+    ensures { (text : List ℕ) × Starts (setting S.ring S.WIDEST S.Kind.LOADING S.Kind.WORKING) choice.modulus choice.root choice.start rest.entry text × Given K.Sink.lost K.Sink.written out.old out.new text }
 {
     match engine_for(&system, choice) {
         Ok(engine) => {

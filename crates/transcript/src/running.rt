@@ -12,8 +12,8 @@ use unit::unit::Unit;
 
 // Makes one tick and prints its digit, if a run is on, and tells whether one was.
 fn tick_out<S: NumberSystem, K: Sink>(unit: &mut Unit<S, ResidueEngine>, out: &mut K) -> bool
-    ensures counts { result ≡ true → (view S.Kind.Coordinate.value unit.new).ticks ≡ (view S.Kind.Coordinate.value unit.old).ticks + 1 }
-    ensures serves { TicksOut K.Sink.lost K.Sink.written (setting S.Ruled.ring S.Ruled.widest S.Kind.Coordinate.loading S.Kind.Coordinate.working) (view S.Kind.Coordinate.value unit.old) (view S.Kind.Coordinate.value unit.new) out.old out.new result }
+    ensures counts { result ≡ true → (view S.Kind.value unit.new).ticks ≡ (view S.Kind.value unit.old).ticks + 1 }
+    ensures serves { TicksOut K.Sink.lost K.Sink.written (setting S.ring S.WIDEST S.Kind.LOADING S.Kind.WORKING) (view S.Kind.value unit.old) (view S.Kind.value unit.new) out.old out.new result }
 {
     let Standing::Running = unit.standing() else {
         return false;
@@ -27,7 +27,7 @@ fn tick_out<S: NumberSystem, K: Sink>(unit: &mut Unit<S, ResidueEngine>, out: &m
 
 // Makes the ticks of a run until it closes and prints their digits, then their number and the total.
 pub fn run_out<S: NumberSystem, K: Sink>(unit: &mut Unit<S, ResidueEngine>, out: &mut K)
-    ensures { RunsOut K.Sink.lost K.Sink.written (setting S.Ruled.ring S.Ruled.widest S.Kind.Coordinate.loading S.Kind.Coordinate.working) (view S.Kind.Coordinate.value unit.old) (view S.Kind.Coordinate.value unit.new) out.old out.new }
+    ensures { RunsOut K.Sink.lost K.Sink.written (setting S.ring S.WIDEST S.Kind.LOADING S.Kind.WORKING) (view S.Kind.value unit.old) (view S.Kind.value unit.new) out.old out.new }
 {
     let mut ticks = unit.ticks();
     while tick_out(unit, out) {

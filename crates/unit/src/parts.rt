@@ -16,7 +16,7 @@ use rules::calls::Standing;
 
 // The width, if the system serves it.
 pub fn served<S: Ruled>(system: &S, places: u64) -> Option<Width>
-    ensures { MatchOption result ((places ≡ 0) ⊎ (S.Ruled.widest < places)) (λ w. (w.places ≡ places) × (((places ≡ 0) ⊎ (S.Ruled.widest < places)) → ⊥)) }
+    ensures { MatchOption result ((places ≡ 0) ⊎ (S.WIDEST < places)) (λ w. (w.places ≡ places) × (((places ≡ 0) ⊎ (S.WIDEST < places)) → ⊥)) }
 {
     if places == 0 || places > system.parameters().widest as u64 {
         return None;
@@ -36,7 +36,7 @@ pub fn left_by(verdict: Verdict) -> Standing
 
 // How a load or a tick leaves a unit, by the remainder.
 pub fn left_with<C: Coordinate>(remainder: Element<C>) -> Standing
-    ensures { Closes (meant C.Coordinate.value remainder) result }
+    ensures { Closes (meant C.value remainder) result }
 {
     if remainder.is_zero() {
         Standing::Cleared
@@ -47,7 +47,7 @@ pub fn left_with<C: Coordinate>(remainder: Element<C>) -> Standing
 
 // Whether the engine's t and n are the system's.
 pub fn matches<S: Ruled, E: PointEngine>(system: &S, engine: &E) -> bool
-    ensures { Decides result (Matches S.Ruled.ring (ring_of (E.PointEngine.meaning engine.now))) }
+    ensures { Decides result (Matches S.ring (ring_of (E.meaning engine.now))) }
 {
     let k = system.parameters();
     k.t == engine.t() && k.n == engine.n()
@@ -55,7 +55,7 @@ pub fn matches<S: Ruled, E: PointEngine>(system: &S, engine: &E) -> bool
 
 // Adds a digit to the engine, and moves it by the base.
 pub fn feed<S: Ruled, E: PointEngine>(system: &S, engine: &mut E, digit: Digit)
-    ensures { Moved (machine E.PointEngine.meaning E.PointEngine.total_of E.PointEngine.current_of) (elem_of digit) S.Ruled.ring.β engine.old engine.new }
+    ensures { Moved (machine E.meaning E.total_of E.current_of) (elem_of digit) S.ring.β engine.old engine.new }
 {
     let d = digit.element();
     let base = system.parameters().base;

@@ -11,7 +11,7 @@ use rules::calls::{Answer, Call, Event};
 impl<S: NumberSystem, E: PointEngine> Unit<S, E> {
     // Makes a call, and answers as it does.
     fn answer_to(&mut self, call: Call) -> Answer
-        ensures told { Tells (setting S.Ruled.ring S.Ruled.widest S.Kind.Coordinate.loading S.Kind.Coordinate.working) (machine E.PointEngine.meaning E.PointEngine.total_of E.PointEngine.current_of) (view S.Kind.Coordinate.value self.old) (view S.Kind.Coordinate.value self.new) call result }
+        ensures told { Tells (setting S.ring S.WIDEST S.Kind.LOADING S.Kind.WORKING) (machine E.meaning E.total_of E.current_of) (view S.Kind.value self.old) (view S.Kind.value self.new) call result }
         ensures system { self.new.system ≡ self.old.system }
     {
         match call {
@@ -49,8 +49,8 @@ impl<S: NumberSystem, E: PointEngine> Unit<S, E> {
     // Makes a call: for every engine and history that the unit comes from, it then comes from that history with this event,
     // and all that is to hold after it holds.
     pub fn perform(&mut self, call: Call) -> Answer
-        ensures told { Tells (setting S.Ruled.ring S.Ruled.widest S.Kind.Coordinate.loading S.Kind.Coordinate.working) (machine E.PointEngine.meaning E.PointEngine.total_of E.PointEngine.current_of) (view S.Kind.Coordinate.value self.old) (view S.Kind.Coordinate.value self.new) call result }
-        ensures kept { Kept (setting S.Ruled.ring S.Ruled.widest S.Kind.Coordinate.loading S.Kind.Coordinate.working) (machine E.PointEngine.meaning E.PointEngine.total_of E.PointEngine.current_of) (view S.Kind.Coordinate.value self.old) (view S.Kind.Coordinate.value self.new) call result }
+        ensures told { Tells (setting S.ring S.WIDEST S.Kind.LOADING S.Kind.WORKING) (machine E.meaning E.total_of E.current_of) (view S.Kind.value self.old) (view S.Kind.value self.new) call result }
+        ensures kept { Kept (setting S.ring S.WIDEST S.Kind.LOADING S.Kind.WORKING) (machine E.meaning E.total_of E.current_of) (view S.Kind.value self.old) (view S.Kind.value self.new) call result }
         ensures system { self.new.system ≡ self.old.system }
     {
         self.answer_to(call)
@@ -65,7 +65,7 @@ pub fn run_calls<S: NumberSystem, E: PointEngine>(
     log: &mut [Event],
 ) -> Unit<S, E>
     ensures calls { map (λ e. e.call) (take (min (length calls.now) (length log.old)) log.new) ≡ take (min (length calls.now) (length log.old)) calls.now }
-    ensures throughout { Throughout (setting S.Ruled.ring S.Ruled.widest S.Kind.Coordinate.loading S.Kind.Coordinate.working) (machine E.PointEngine.meaning E.PointEngine.total_of E.PointEngine.current_of) engine (reverse (take (min (length calls.now) (length log.old)) log.new)) (view S.Kind.Coordinate.value result) }
+    ensures throughout { Throughout (setting S.ring S.WIDEST S.Kind.LOADING S.Kind.WORKING) (machine E.meaning E.total_of E.current_of) engine (reverse (take (min (length calls.now) (length log.old)) log.new)) (view S.Kind.value result) }
     ensures rest { drop (min (length calls.now) (length log.old)) log.new ≡ drop (min (length calls.now) (length log.old)) log.old }
     ensures system { result.system ≡ system }
 {

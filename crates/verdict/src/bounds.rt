@@ -15,7 +15,7 @@ use numbers::{Element, NumberSystem, Ruled};
 // The norm of a small element.
 pub fn norm_in<S: NumberSystem>(system: &S, z: Element<i32>) -> u32
     requires { Below 2048 (short z) }
-    ensures { result ≡ size S.Ruled.ring (short z) }
+    ensures { result ≡ size S.ring (short z) }
 {
     system.norm_of(z) as u32
 }
@@ -23,7 +23,7 @@ pub fn norm_in<S: NumberSystem>(system: &S, z: Element<i32>) -> u32
 // The largest norm of a digit, or 0.
 pub fn largest<S: NumberSystem>(system: &S, digits: &[Digit]) -> u32
     ensures small { result ≤ 260100 }
-    ensures most { Most S.Ruled.ring result (elems digits.now) }
+    ensures most { Most S.ring result (elems digits.now) }
 {
     let mut most: u32 = 0;
     for d in digits {
@@ -44,7 +44,7 @@ pub fn norm_limit(most: u32, power: u32) -> u32
 // The norm up to which elements are looked at: if all of them have expansions, every element has one.
 pub fn bound<S: NumberSystem>(system: &S, width: Width, digits: &[Digit]) -> u32
     ensures small { result ≤ 1560600 }
-    ensures reaches { Reaches S.Ruled.ring width.places (elems digits.now) result }
+    ensures reaches { Reaches S.ring width.places (elems digits.now) result }
 {
     norm_limit(largest(system, digits), modulus(system, width))
 }

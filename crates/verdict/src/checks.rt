@@ -21,8 +21,8 @@ use sets::table::DigitSet;
 
 // Whether every element has an expansion, and else the first that has none, with the lead and the period of its trail.
 pub fn check<S: NumberSystem>(system: &S, width: Width, digits: &[Digit]) -> Verdict
-    requires full { Full S.Ruled.ring width.places (Has (elems digits.now)) }
-    ensures { Holds S.Ruled.ring width.places (Has (elems digits.now)) (verdict_of result) }
+    requires full { Full S.ring width.places (Has (elems digits.now)) }
+    ensures { Holds S.ring width.places (Has (elems digits.now)) (verdict_of result) }
 {
     let last = bound(system, width, digits);
     search(
@@ -37,7 +37,7 @@ pub fn check<S: NumberSystem>(system: &S, width: Width, digits: &[Digit]) -> Ver
 
 // The verdict on a set, which finds out itself whether the set is full: else it is refused as open.
 pub fn judge<S: NumberSystem>(system: &S, set: &DigitSet) -> Result<Verdict, Refusal>
-    ensures { MatchResult result (λ v. Full S.Ruled.ring (width_of set.now) (Has (held set.now)) × Holds S.Ruled.ring (width_of set.now) (Has (held set.now)) (verdict_of v)) (λ e. (Full S.Ruled.ring (width_of set.now) (Has (held set.now)) → ⊥) × (e ≡ Open)) }
+    ensures { MatchResult result (λ v. Full S.ring (width_of set.now) (Has (held set.now)) × Holds S.ring (width_of set.now) (Has (held set.now)) (verdict_of v)) (λ e. (Full S.ring (width_of set.now) (Has (held set.now)) → ⊥) × (e ≡ Open)) }
 {
     if !set.is_full(system) {
         return Err(Refusal::Open);

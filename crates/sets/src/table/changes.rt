@@ -55,7 +55,7 @@ impl DigitSet {
 
     // Whether a digit of this one's class is held.
     pub fn has_class<S: Asks<i32>>(&self, system: &S, digit: Digit) -> bool
-        ensures { Decides result (Classed S.Ruled.ring (width_of self.now) (Has (held self.now)) (elem_of digit)) }
+        ensures { Decides result (Classed S.ring (width_of self.now) (Has (held self.now)) (elem_of digit)) }
     {
         match digit_of(system, self.width, self.as_slice(), digit.element()) {
             Some(_) => true,
@@ -66,7 +66,7 @@ impl DigitSet {
     // Puts the element (x, y) at the end, and answers how many digits are held. Refused as `putRows` says, and then nothing changes.
     // A full table that has no digit of the class is refused as well. That is not reached while the digits are of different classes and the system serves the width, since it then has at most 128 classes: `stays_apart` says so.
     pub fn put<S: Asks<i32>>(&mut self, system: &S, x: i64, y: i64) -> Result<usize, Refusal>
-        ensures { MatchResult result (λ n. Puttable S.Ruled.ring (width_of self.old) (held self.old) (record { x = x; y = y }) × Added self.old self.new (record { x = x; y = y }) n) (λ e. Unput S.Ruled.ring (width_of self.old) (held self.old) (record { x = x; y = y }) e × (self.new ≡ self.old)) }
+        ensures { MatchResult result (λ n. Puttable S.ring (width_of self.old) (held self.old) (record { x = x; y = y }) × Added self.old self.new (record { x = x; y = y }) n) (λ e. Unput S.ring (width_of self.old) (held self.old) (record { x = x; y = y }) e × (self.new ≡ self.old)) }
     {
         let Some(digit) = Digit::new(x, y) else {
             return Err(Refusal::Range);

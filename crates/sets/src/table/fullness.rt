@@ -11,7 +11,7 @@ use numbers::Asks;
 impl DigitSet {
     // Whether exactly one digit is held in each class that the base does not divide, and no other digits.
     pub fn is_full<S: Asks<i32>>(&self, system: &S) -> bool
-        ensures { Decides result (Full S.Ruled.ring (width_of self.now) (Has (held self.now))) }
+        ensures { Decides result (Full S.ring (width_of self.now) (Has (held self.now))) }
     {
         if self.len() != class_count(system, self.width) as usize {
             return false;

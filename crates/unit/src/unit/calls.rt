@@ -17,7 +17,7 @@ use verdict::judge;
 impl<S: NumberSystem, E: PointEngine> Unit<S, E> {
     // Empties the digits at another width, and answers the number of classes.
     pub fn set_width(&mut self, places: u64) -> Result<u32, Refusal>
-        ensures told { MatchResult result (Widens (setting S.Ruled.ring S.Ruled.widest S.Kind.Coordinate.loading S.Kind.Coordinate.working) (machine E.PointEngine.meaning E.PointEngine.total_of E.PointEngine.current_of) (view S.Kind.Coordinate.value self.old) (view S.Kind.Coordinate.value self.new) places) (Down (setting S.Ruled.ring S.Ruled.widest S.Kind.Coordinate.loading S.Kind.Coordinate.working) (machine E.PointEngine.meaning E.PointEngine.total_of E.PointEngine.current_of) (view S.Kind.Coordinate.value self.old) (view S.Kind.Coordinate.value self.new) (Call.Width places)) }
+        ensures told { MatchResult result (Widens (setting S.ring S.WIDEST S.Kind.LOADING S.Kind.WORKING) (machine E.meaning E.total_of E.current_of) (view S.Kind.value self.old) (view S.Kind.value self.new) places) (Down (setting S.ring S.WIDEST S.Kind.LOADING S.Kind.WORKING) (machine E.meaning E.total_of E.current_of) (view S.Kind.value self.old) (view S.Kind.value self.new) (Call.Width places)) }
         ensures system { self.new.system ≡ self.old.system }
     {
         if let Standing::Running = self.standing {
@@ -34,7 +34,7 @@ impl<S: NumberSystem, E: PointEngine> Unit<S, E> {
 
     // Adds the digit (x, y), and answers how many are held.
     pub fn put(&mut self, x: i64, y: i64) -> Result<usize, Refusal>
-        ensures told { MatchResult result (Puts (setting S.Ruled.ring S.Ruled.widest S.Kind.Coordinate.loading S.Kind.Coordinate.working) (machine E.PointEngine.meaning E.PointEngine.total_of E.PointEngine.current_of) (view S.Kind.Coordinate.value self.old) (view S.Kind.Coordinate.value self.new) x y) (DownPut (setting S.Ruled.ring S.Ruled.widest S.Kind.Coordinate.loading S.Kind.Coordinate.working) (machine E.PointEngine.meaning E.PointEngine.total_of E.PointEngine.current_of) (view S.Kind.Coordinate.value self.old) (view S.Kind.Coordinate.value self.new) x y) }
+        ensures told { MatchResult result (Puts (setting S.ring S.WIDEST S.Kind.LOADING S.Kind.WORKING) (machine E.meaning E.total_of E.current_of) (view S.Kind.value self.old) (view S.Kind.value self.new) x y) (DownPut (setting S.ring S.WIDEST S.Kind.LOADING S.Kind.WORKING) (machine E.meaning E.total_of E.current_of) (view S.Kind.value self.old) (view S.Kind.value self.new) x y) }
         ensures system { self.new.system ≡ self.old.system }
     {
         if let Standing::Running = self.standing {
@@ -52,7 +52,7 @@ impl<S: NumberSystem, E: PointEngine> Unit<S, E> {
 
     // Removes the digit (x, y), and answers how many are held.
     pub fn take(&mut self, x: i64, y: i64) -> Result<usize, Refusal>
-        ensures told { MatchResult result (Takes (setting S.Ruled.ring S.Ruled.widest S.Kind.Coordinate.loading S.Kind.Coordinate.working) (machine E.PointEngine.meaning E.PointEngine.total_of E.PointEngine.current_of) (view S.Kind.Coordinate.value self.old) (view S.Kind.Coordinate.value self.new) x y) (Down (setting S.Ruled.ring S.Ruled.widest S.Kind.Coordinate.loading S.Kind.Coordinate.working) (machine E.PointEngine.meaning E.PointEngine.total_of E.PointEngine.current_of) (view S.Kind.Coordinate.value self.old) (view S.Kind.Coordinate.value self.new) (Call.Take x y)) }
+        ensures told { MatchResult result (Takes (setting S.ring S.WIDEST S.Kind.LOADING S.Kind.WORKING) (machine E.meaning E.total_of E.current_of) (view S.Kind.value self.old) (view S.Kind.value self.new) x y) (Down (setting S.ring S.WIDEST S.Kind.LOADING S.Kind.WORKING) (machine E.meaning E.total_of E.current_of) (view S.Kind.value self.old) (view S.Kind.value self.new) (Call.Take x y)) }
         ensures system { self.new.system ≡ self.old.system }
     {
         if let Standing::Running = self.standing {
@@ -70,7 +70,7 @@ impl<S: NumberSystem, E: PointEngine> Unit<S, E> {
 
     // Checks the set, and answers the verdict.
     pub fn check(&mut self) -> Result<Verdict, Refusal>
-        ensures told { MatchResult result (Checks (setting S.Ruled.ring S.Ruled.widest S.Kind.Coordinate.loading S.Kind.Coordinate.working) (machine E.PointEngine.meaning E.PointEngine.total_of E.PointEngine.current_of) (view S.Kind.Coordinate.value self.old) (view S.Kind.Coordinate.value self.new)) (Down (setting S.Ruled.ring S.Ruled.widest S.Kind.Coordinate.loading S.Kind.Coordinate.working) (machine E.PointEngine.meaning E.PointEngine.total_of E.PointEngine.current_of) (view S.Kind.Coordinate.value self.old) (view S.Kind.Coordinate.value self.new) Call.Check) }
+        ensures told { MatchResult result (Checks (setting S.ring S.WIDEST S.Kind.LOADING S.Kind.WORKING) (machine E.meaning E.total_of E.current_of) (view S.Kind.value self.old) (view S.Kind.value self.new)) (Down (setting S.ring S.WIDEST S.Kind.LOADING S.Kind.WORKING) (machine E.meaning E.total_of E.current_of) (view S.Kind.value self.old) (view S.Kind.value self.new) Call.Check) }
         ensures system { self.new.system ≡ self.old.system }
     {
         if let Standing::Running = self.standing {
@@ -88,7 +88,7 @@ impl<S: NumberSystem, E: PointEngine> Unit<S, E> {
 
     // Loads an element: the engine is restarted, and a run is on, unless the element is 0.
     pub fn load(&mut self, z: Element<i64>) -> Result<(), Refusal>
-        ensures told { MatchResult result (λ _. Loads (setting S.Ruled.ring S.Ruled.widest S.Kind.Coordinate.loading S.Kind.Coordinate.working) (machine E.PointEngine.meaning E.PointEngine.total_of E.PointEngine.current_of) (view S.Kind.Coordinate.value self.old) (view S.Kind.Coordinate.value self.new) z) (Down (setting S.Ruled.ring S.Ruled.widest S.Kind.Coordinate.loading S.Kind.Coordinate.working) (machine E.PointEngine.meaning E.PointEngine.total_of E.PointEngine.current_of) (view S.Kind.Coordinate.value self.old) (view S.Kind.Coordinate.value self.new) (Call.Load z)) }
+        ensures told { MatchResult result (λ _. Loads (setting S.ring S.WIDEST S.Kind.LOADING S.Kind.WORKING) (machine E.meaning E.total_of E.current_of) (view S.Kind.value self.old) (view S.Kind.value self.new) z) (Down (setting S.ring S.WIDEST S.Kind.LOADING S.Kind.WORKING) (machine E.meaning E.total_of E.current_of) (view S.Kind.value self.old) (view S.Kind.value self.new) (Call.Load z)) }
         ensures system { self.new.system ≡ self.old.system }
     {
         match self.standing {
@@ -112,7 +112,7 @@ impl<S: NumberSystem, E: PointEngine> Unit<S, E> {
 
     // Takes one step, feeds its digit to the engine, counts one and answers the digit.
     pub fn tick(&mut self) -> Result<Element<i32>, Refusal>
-        ensures told { MatchResult result (Ticks (setting S.Ruled.ring S.Ruled.widest S.Kind.Coordinate.loading S.Kind.Coordinate.working) (machine E.PointEngine.meaning E.PointEngine.total_of E.PointEngine.current_of) (view S.Kind.Coordinate.value self.old) (view S.Kind.Coordinate.value self.new)) (DownTick (setting S.Ruled.ring S.Ruled.widest S.Kind.Coordinate.loading S.Kind.Coordinate.working) (machine E.PointEngine.meaning E.PointEngine.total_of E.PointEngine.current_of) (view S.Kind.Coordinate.value self.old) (view S.Kind.Coordinate.value self.new)) }
+        ensures told { MatchResult result (Ticks (setting S.ring S.WIDEST S.Kind.LOADING S.Kind.WORKING) (machine E.meaning E.total_of E.current_of) (view S.Kind.value self.old) (view S.Kind.value self.new)) (DownTick (setting S.ring S.WIDEST S.Kind.LOADING S.Kind.WORKING) (machine E.meaning E.total_of E.current_of) (view S.Kind.value self.old) (view S.Kind.value self.new)) }
         ensures system { self.new.system ≡ self.old.system }
     {
         let Standing::Running = self.standing else {
@@ -138,7 +138,7 @@ impl<S: NumberSystem, E: PointEngine> Unit<S, E> {
 
     // Ends the run; ticks, total and remainder stay.
     pub fn abandon(&mut self) -> Result<(), Refusal>
-        ensures told { MatchResult result (λ _. Abandons (setting S.Ruled.ring S.Ruled.widest S.Kind.Coordinate.loading S.Kind.Coordinate.working) (machine E.PointEngine.meaning E.PointEngine.total_of E.PointEngine.current_of) (view S.Kind.Coordinate.value self.old) (view S.Kind.Coordinate.value self.new)) (Down (setting S.Ruled.ring S.Ruled.widest S.Kind.Coordinate.loading S.Kind.Coordinate.working) (machine E.PointEngine.meaning E.PointEngine.total_of E.PointEngine.current_of) (view S.Kind.Coordinate.value self.old) (view S.Kind.Coordinate.value self.new) Call.Abandon) }
+        ensures told { MatchResult result (λ _. Abandons (setting S.ring S.WIDEST S.Kind.LOADING S.Kind.WORKING) (machine E.meaning E.total_of E.current_of) (view S.Kind.value self.old) (view S.Kind.value self.new)) (Down (setting S.ring S.WIDEST S.Kind.LOADING S.Kind.WORKING) (machine E.meaning E.total_of E.current_of) (view S.Kind.value self.old) (view S.Kind.value self.new) Call.Abandon) }
         ensures system { self.new.system ≡ self.old.system }
     {
         let Standing::Running = self.standing else {

@@ -17,7 +17,7 @@ use sets::table::DigitSet;
 impl<S: NumberSystem, E: PointEngine> Unit<S, E> {
     // A new unit: width 1, no digits, draft, 0 ticks, remainder 0, and the engine as it comes.
     pub fn new(system: S, engine: E) -> Self
-        ensures is { view S.Kind.Coordinate.value result ≡ fresh engine }
+        ensures is { view S.Kind.value result ≡ fresh engine }
         ensures system { result.system ≡ system }
     {
         Unit {
@@ -33,63 +33,63 @@ impl<S: NumberSystem, E: PointEngine> Unit<S, E> {
 
     // How the unit stands.
     pub fn standing(&self) -> Standing
-        ensures { result ≡ (view S.Kind.Coordinate.value self.now).standing }
+        ensures { result ≡ (view S.Kind.value self.now).standing }
     {
         self.standing
     }
 
     // The width.
     pub fn width(&self) -> u32
-        ensures { result ≡ (view S.Kind.Coordinate.value self.now).width }
+        ensures { result ≡ (view S.Kind.value self.now).width }
     {
         self.set.width().places()
     }
 
     // How many digits are held.
     pub fn held(&self) -> usize
-        ensures { result ≡ length (view S.Kind.Coordinate.value self.now).digits }
+        ensures { result ≡ length (view S.Kind.value self.now).digits }
     {
         self.set.len()
     }
 
     // The digit held at a place, and none past the last.
     pub fn digit(&self, place: usize) -> Option<Digit>
-        ensures { MatchOption result (length (view S.Kind.Coordinate.value self.now).digits ≤ place) (λ d. (place < length (view S.Kind.Coordinate.value self.now).digits) × (elem_of d ≡ slice_index_or (view S.Kind.Coordinate.value self.now).digits place 𝟘)) }
+        ensures { MatchOption result (length (view S.Kind.value self.now).digits ≤ place) (λ d. (place < length (view S.Kind.value self.now).digits) × (elem_of d ≡ slice_index_or (view S.Kind.value self.now).digits place 𝟘)) }
     {
         self.set.digit(place)
     }
 
     // The ticks of the last run.
     pub fn ticks(&self) -> u32
-        ensures { result ≡ (view S.Kind.Coordinate.value self.now).ticks }
+        ensures { result ≡ (view S.Kind.value self.now).ticks }
     {
         self.ticks
     }
 
     // The remainder.
     pub fn remainder(&self) -> Element<S::Kind>
-        ensures { meant S.Kind.Coordinate.value result ≡ (view S.Kind.Coordinate.value self.now).remainder }
+        ensures { meant S.Kind.value result ≡ (view S.Kind.value self.now).remainder }
     {
         self.remainder
     }
 
     // The verdict of the last accepted check, while it lasts.
     pub fn verdict(&self) -> Option<Verdict>
-        ensures { result ≡ (view S.Kind.Coordinate.value self.now).verdict }
+        ensures { result ≡ (view S.Kind.value self.now).verdict }
     {
         self.verdict
     }
 
     // The engine, to be read only.
     pub fn engine(&self) -> &E
-        ensures { result.now ≡ (view S.Kind.Coordinate.value self.now).engine }
+        ensures { result.now ≡ (view S.Kind.value self.now).engine }
     {
         &self.engine
     }
 
     // The multiples that an engine stores ahead: half the digits held, rounded up.
     pub fn table_need(&self) -> usize
-        ensures { result ≡ (length (view S.Kind.Coordinate.value self.now).digits + 1) / 2 }
+        ensures { result ≡ (length (view S.Kind.value self.now).digits + 1) / 2 }
     {
         (self.set.len() + 1) / 2
     }

@@ -9,19 +9,19 @@ use numbers::{Coordinate, Element, NumberSystem, Ruled};
 use rounds::Dynamics;
 
 impl<'s, 'd, S: NumberSystem> Dynamics for Recoding<'s, 'd, S> {
-    ghost ring = { λ _. S.Ruled.ring };
+    ghost ring = { λ _. S.ring };
 
-    ghost next = { λ r. next S.Ruled.ring S.Ruled.lawful r.width.places r.width.some (elems r.digits.now) };
+    ghost next = { λ r. next S.ring S.lawful r.width.places r.width.some (elems r.digits.now) };
 
     ghost cap = { λ _. 1560600 };
 
-    ghost lawful = { λ _. S.Ruled.lawful };
+    ghost lawful = { λ _. S.lawful };
 
     ghost small = { λ _. lit≤ tt };
 
-    ghost closed = { λ r. closed S.Ruled.ring S.Ruled.lawful r.width.places r.width.some r.digits.now };
+    ghost closed = { λ r. closed S.ring S.lawful r.width.places r.width.some r.digits.now };
 
-    ghost rests = { λ r. rests S.Ruled.ring S.Ruled.lawful r.width.places r.width.some (elems r.digits.now) };
+    ghost rests = { λ r. rests S.ring S.lawful r.width.places r.width.some (elems r.digits.now) };
 
     fn step(&self, z: Element<i32>) -> Element<i32> {
         match step(self.system, self.width, self.digits, z) {

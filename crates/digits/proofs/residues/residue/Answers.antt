@@ -20,5 +20,5 @@ returns g c =
     record {
       small = subst (Below (2 ^ 24)) (sym is) (residue_small (s.p ^ w) (2 ^ 24) z some most);
       class = subst (SameClass s w z) (sym is) (residue_class s g.S.Ruled.lawful w z some);
-      inward = subst (λ r. Below g.C.Coordinate.working (sub z r)) (sym is) (residue_inward (s.p ^ w) g.C.Coordinate.working z some c.requires);
+      inward = subst (λ r. Below g.C.Coordinate.WORKING (sub z r)) (sym is) (residue_inward (s.p ^ w) g.C.Coordinate.WORKING z some c.requires);
     }

@@ -31,7 +31,7 @@ pub plus-requires : goal.plus-requires
 plus-requires g c =
     let s = g.S.Ruled.ring in
     let law = g.S.Ruled.lawful in
-    let W = g.C.Coordinate.working in
+    let W = g.C.Coordinate.WORKING in
     let v = g.C.Coordinate.value in
     let h = quotient_below s law W (sub (meaning v c.args.z) (short c.args.near)) (meaning v c.quotient-high.result) (high g c) c.requires.inward in
     let l = quotient_below s law (2 ^ 24 + 255) (short c.subtract.result) (short c.quotient-low.result) (low g c) (close g c).1 in

@@ -15,7 +15,7 @@ use Rattle.transcript.proofs.answering.answer_call.Goals as goal
 
 pub print-requires : goal.print-requires
 print-requires g c =
-    let k = setting g.S.Ruled.ring g.S.Ruled.widest g.S.Kind.Coordinate.loading g.S.Kind.Coordinate.working in
+    let k = setting g.S.Ruled.ring g.S.Ruled.WIDEST g.S.Kind.Coordinate.LOADING g.S.Kind.Coordinate.WORKING in
     let v = view g.S.Kind.Coordinate.value c.args.unit.now in
     let w = view g.S.Kind.Coordinate.value c.perform-answer.new.self in
     let set = c.args.unit.now.set in
@@ -26,7 +26,7 @@ pub returns-in-Loaded : goal.returns-in-Loaded
 returns-in-Loaded g c = λ e h x.
     let lost = g.K.Sink.lost in
     let written = g.K.Sink.written in
-    let k = setting g.S.Ruled.ring g.S.Ruled.widest g.S.Kind.Coordinate.loading g.S.Kind.Coordinate.working in
+    let k = setting g.S.Ruled.ring g.S.Ruled.WIDEST g.S.Kind.Coordinate.LOADING g.S.Kind.Coordinate.WORKING in
     let m = engines.meaning e in
     let call = c.args.call in
     let a = c.perform-answer.result in
@@ -51,7 +51,7 @@ returns-in-Loaded g c = λ e h x.
 
 pub returns-in_default : goal.returns-in_default
 returns-in_default g c = λ e h x.
-    let k = setting g.S.Ruled.ring g.S.Ruled.widest g.S.Kind.Coordinate.loading g.S.Kind.Coordinate.working in
+    let k = setting g.S.Ruled.ring g.S.Ruled.WIDEST g.S.Kind.Coordinate.LOADING g.S.Kind.Coordinate.WORKING in
     let m = engines.meaning e in
     let call = c.args.call in
     let a = c.perform-answer.result in

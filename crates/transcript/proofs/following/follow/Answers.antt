@@ -11,7 +11,7 @@ use Rattle.transcript.proofs.following.follow.Goals as goal
 
 pub loop-line-init : goal.loop-line-init
 loop-line-init g c =
-    let k = setting g.S.Ruled.ring g.S.Ruled.widest g.S.Kind.Coordinate.loading g.S.Kind.Coordinate.working in
+    let k = setting g.S.Ruled.ring g.S.Ruled.WIDEST g.S.Kind.Coordinate.LOADING g.S.Kind.Coordinate.WORKING in
     let v = view g.S.Kind.Coordinate.value c.args.unit.now in
     (c.requires.0, omega (arith, c.requires.1), λ e h x. progress_none g.K.Sink.lost g.K.Sink.written k e h c.args.lines c.args.out.now v x)
 
@@ -20,7 +20,7 @@ loop-line-smaller g c = omega (arith, split_length c.loop-line.left c.in-Finishe
 
 pub loop-line-preserved : goal.loop-line-preserved
 loop-line-preserved g c =
-    let k = setting g.S.Ruled.ring g.S.Ruled.widest g.S.Kind.Coordinate.loading g.S.Kind.Coordinate.working in
+    let k = setting g.S.Ruled.ring g.S.Ruled.WIDEST g.S.Kind.Coordinate.LOADING g.S.Kind.Coordinate.WORKING in
     let v = view g.S.Kind.Coordinate.value c.loop-line.unit in
     let w = view g.S.Kind.Coordinate.value c.answer_line.new.unit in
     let at = c.loop-line.left in
@@ -44,7 +44,7 @@ answer_line-requires g c =
 
 pub returns-then-not-is_empty : goal.returns-then-not-is_empty
 returns-then-not-is_empty g c = λ e h x.
-    let k = setting g.S.Ruled.ring g.S.Ruled.widest g.S.Kind.Coordinate.loading g.S.Kind.Coordinate.working in
+    let k = setting g.S.Ruled.ring g.S.Ruled.WIDEST g.S.Kind.Coordinate.LOADING g.S.Kind.Coordinate.WORKING in
     let w = view g.S.Kind.Coordinate.value c.loop-line.unit in
     let at = c.loop-line.left in
     let p = c.loop-line.invariant.2 e h x in
@@ -54,7 +54,7 @@ returns-then-not-is_empty g c = λ e h x.
 
 pub returns-else-not-is_empty : goal.returns-else-not-is_empty
 returns-else-not-is_empty g c = λ e h x.
-    let k = setting g.S.Ruled.ring g.S.Ruled.widest g.S.Kind.Coordinate.loading g.S.Kind.Coordinate.working in
+    let k = setting g.S.Ruled.ring g.S.Ruled.WIDEST g.S.Kind.Coordinate.LOADING g.S.Kind.Coordinate.WORKING in
     let w = view g.S.Kind.Coordinate.value c.loop-line.unit in
     let at = c.loop-line.left in
     let p = c.loop-line.invariant.2 e h x in

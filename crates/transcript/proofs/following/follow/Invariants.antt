@@ -14,8 +14,8 @@ invariant-loop-line g l =
     Within l.left
     × (l.number + length (bytes l.left) ≤ longest + 2)
     × ((e : ResidueEngine) (h : History) →
-    Comes (setting g.S.Ruled.ring g.S.Ruled.widest g.S.Kind.Coordinate.loading g.S.Kind.Coordinate.working) engines e h (view g.S.Kind.Coordinate.value l.initial.unit) →
-    Progress g.K.Sink.lost g.K.Sink.written (setting g.S.Ruled.ring g.S.Ruled.widest g.S.Kind.Coordinate.loading g.S.Kind.Coordinate.working) e h l.initial.left l.initial.out l.left l.number (view g.S.Kind.Coordinate.value l.unit) l.out)
+    Comes (setting g.S.Ruled.ring g.S.Ruled.WIDEST g.S.Kind.Coordinate.LOADING g.S.Kind.Coordinate.WORKING) engines e h (view g.S.Kind.Coordinate.value l.initial.unit) →
+    Progress g.K.Sink.lost g.K.Sink.written (setting g.S.Ruled.ring g.S.Ruled.WIDEST g.S.Kind.Coordinate.LOADING g.S.Kind.Coordinate.WORKING) e h l.initial.left l.initial.out l.left l.number (view g.S.Kind.Coordinate.value l.unit) l.out)
 
 abbrev pub decreases-loop-line : goal.decreases-loop-line
 decreases-loop-line g l = length (bytes l.left)

@@ -20,7 +20,7 @@ use Rattle.transcript.proofs.running.run_out.Goals as goal
 
 pub loop-ticks-init : goal.loop-ticks-init
 loop-ticks-init g c =
-    let k = setting g.S.Ruled.ring g.S.Ruled.widest g.S.Kind.Coordinate.loading g.S.Kind.Coordinate.working in
+    let k = setting g.S.Ruled.ring g.S.Ruled.WIDEST g.S.Kind.Coordinate.LOADING g.S.Kind.Coordinate.WORKING in
     let v = view g.S.Kind.Coordinate.value c.args.unit.now in
     (c.ticks-ticks.ensures, λ e h x z is y. course_none g.K.Sink.lost g.K.Sink.written k e h x v c.args.out.now z is y)
 
@@ -33,7 +33,7 @@ loop-ticks-smaller g c =
 
 pub loop-ticks-preserved : goal.loop-ticks-preserved
 loop-ticks-preserved g c =
-    let k = setting g.S.Ruled.ring g.S.Ruled.widest g.S.Kind.Coordinate.loading g.S.Kind.Coordinate.working in
+    let k = setting g.S.Ruled.ring g.S.Ruled.WIDEST g.S.Kind.Coordinate.LOADING g.S.Kind.Coordinate.WORKING in
     let v = view g.S.Kind.Coordinate.value c.loop-ticks.unit in
     let w = view g.S.Kind.Coordinate.value c.tick_out.new.unit in (
       c.ticks-ticks-in-loop-ticks.ensures,
@@ -46,10 +46,10 @@ pub returns : goal.returns
 returns g c = λ e h x z is y.
     let lost = g.K.Sink.lost in
     let written = g.K.Sink.written in
-    let k = setting g.S.Ruled.ring g.S.Ruled.widest g.S.Kind.Coordinate.loading g.S.Kind.Coordinate.working in
+    let k = setting g.S.Ruled.ring g.S.Ruled.WIDEST g.S.Kind.Coordinate.LOADING g.S.Kind.Coordinate.WORKING in
     let v = view g.S.Kind.Coordinate.value c.loop-ticks.unit in
     let w = view g.S.Kind.Coordinate.value c.tick_out.new.unit in
-    let good = sound g.S.Ruled.ring g.S.Ruled.widest g.S.Kind.Coordinate.loading g.S.Kind.Coordinate.working g.S.Ruled.lawful g.S.Ruled.widths g.met.S.Kind.Coordinate.limits in
+    let good = sound g.S.Ruled.ring g.S.Ruled.WIDEST g.S.Kind.Coordinate.LOADING g.S.Kind.Coordinate.WORKING g.S.Ruled.lawful g.S.Ruled.widths g.met.S.Kind.Coordinate.limits in
     let q = c.loop-ticks.invariant.1 e h x z is y in
     let still = c.loop-ticks-test.ensures.serves e q.past q.comes in
     let ds = q.digits in

@@ -8,7 +8,7 @@ use Rattle.transcript.proofs.running.tick_out.Goals as goal
 
 pub returns-in_default-perform : goal.returns-in_default-perform
 returns-in_default-perform g c =
-    let k = setting g.S.Ruled.ring g.S.Ruled.widest g.S.Kind.Coordinate.loading g.S.Kind.Coordinate.working in
+    let k = setting g.S.Ruled.ring g.S.Ruled.WIDEST g.S.Kind.Coordinate.LOADING g.S.Kind.Coordinate.WORKING in
     let v = view g.S.Kind.Coordinate.value c.args.unit.now in
     record {
       counts = λ e. absurd (let z : ◌≡◌ {A = ℕ} 0 1 = cc in omega arith);
@@ -21,7 +21,7 @@ returns-in_default-perform g c =
 
 pub returns : goal.returns
 returns g c =
-    let k = setting g.S.Ruled.ring g.S.Ruled.widest g.S.Kind.Coordinate.loading g.S.Kind.Coordinate.working in
+    let k = setting g.S.Ruled.ring g.S.Ruled.WIDEST g.S.Kind.Coordinate.LOADING g.S.Kind.Coordinate.WORKING in
     let v = view g.S.Kind.Coordinate.value c.args.unit.now in
     let w = view g.S.Kind.Coordinate.value c.perform.new.self in
     let d = c.in-Digit.digit in

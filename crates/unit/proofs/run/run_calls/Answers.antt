@@ -18,7 +18,7 @@ loop-i-init g c = (c.new-unit.ensures.is ∙ ap new (sym (ap (λ v. v.engine) c.
 pub loop-i-preserved : goal.loop-i-preserved
 loop-i-preserved g c =
     let inv = c.loop-i.invariant in
-    let k = setting g.S.Ruled.ring g.S.Ruled.widest g.S.Kind.Coordinate.loading g.S.Kind.Coordinate.working in
+    let k = setting g.S.Ruled.ring g.S.Ruled.WIDEST g.S.Kind.Coordinate.LOADING g.S.Kind.Coordinate.WORKING in
     let M = machine g.E.PointEngine.meaning g.E.PointEngine.total_of g.E.PointEngine.current_of in
     let i = c.loop-i.i in
     let log = c.loop-i.log in
@@ -39,10 +39,10 @@ loop-i-preserved g c =
 pub returns : goal.returns
 returns g c =
     let inv = c.loop-i.invariant in
-    let k = setting g.S.Ruled.ring g.S.Ruled.widest g.S.Kind.Coordinate.loading g.S.Kind.Coordinate.working in
+    let k = setting g.S.Ruled.ring g.S.Ruled.WIDEST g.S.Kind.Coordinate.LOADING g.S.Kind.Coordinate.WORKING in
     let M = machine g.E.PointEngine.meaning g.E.PointEngine.total_of g.E.PointEngine.current_of in
     let w = view g.S.Kind.Coordinate.value c.loop-i.unit in
-    let good = sound g.S.Ruled.ring g.S.Ruled.widest g.S.Kind.Coordinate.loading g.S.Kind.Coordinate.working g.S.Ruled.lawful g.S.Ruled.widths g.met.S.Kind.Coordinate.limits in
+    let good = sound g.S.Ruled.ring g.S.Ruled.WIDEST g.S.Kind.Coordinate.LOADING g.S.Kind.Coordinate.WORKING g.S.Ruled.lawful g.S.Ruled.widths g.met.S.Kind.Coordinate.limits in
     let end : c.loop-i.i ≡ min (length c.args.calls.now) (length c.args.log.now) = search rules in
     let started : c.new-unit.result.engine ≡ c.args.engine = ap (λ v. v.engine) c.new-unit.ensures.is in
     record {

@@ -6,5 +6,5 @@ pub returns : goal.returns
 returns g c = record {
   told = c.answer_to.ensures.told;
   system = c.answer_to.ensures.system;
-  kept = keeps _ _ (sound g.S.Ruled.ring g.S.Ruled.widest g.S.Kind.Coordinate.loading g.S.Kind.Coordinate.working g.S.Ruled.lawful g.S.Ruled.widths g.met.S.Kind.Coordinate.limits) g.met.E.PointEngine.lawful _ _ c.args.call c.answer_to.result c.answer_to.ensures.told;
+  kept = keeps _ _ (sound g.S.Ruled.ring g.S.Ruled.WIDEST g.S.Kind.Coordinate.LOADING g.S.Kind.Coordinate.WORKING g.S.Ruled.lawful g.S.Ruled.widths g.met.S.Kind.Coordinate.limits) g.met.E.PointEngine.lawful _ _ c.args.call c.answer_to.result c.answer_to.ensures.told;
 }

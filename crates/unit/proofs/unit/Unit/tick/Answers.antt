@@ -8,7 +8,7 @@ use Rattle.unit.proofs.unit.Unit.tick.Goals as goal
 pub returns-in_default-step : goal.returns-in_default-step
 returns-in_default-step g c =
     let s = g.S.Ruled.ring in
-    let limit = g.S.Kind.Coordinate.working in
+    let limit = g.S.Kind.Coordinate.WORKING in
     let a = c.args.self.now.set in
     let z = meaning g.S.Kind.Coordinate.value c.args.self.now.remainder in
     let stuck : Stuck s limit (width_of a) (held a) z = subst (λ w. Stuck s limit w (held a) z) c.width.ensures (subst (λ ds. Stuck s limit c.width.result.places ds z) c.as_slice.ensures c.in_default-step.ensures) in
