@@ -2,9 +2,8 @@
 
 #![tactic(auto)]
 
-pub mod classes;
 pub mod digit;
+pub mod numeration;
 pub mod residues;
-pub mod steps;
 pub mod verdict;
 pub mod width;

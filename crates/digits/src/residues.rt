@@ -8,25 +8,20 @@ use crate::width::Width;
 use numbers::{Coordinate, Element, Ruled};
 
 // p^w.
-pub fn modulus<S: Ruled>(system: &S, width: Width) -> u32
+pub fn modulus<S: Ruled>(width: Width) -> u32
     ensures is { result ≡ S.ring.p ^ width.places }
     ensures some { 2 ≤ result }
     ensures most { result ≤ 2 ^ 24 }
 {
-    let p = system.parameters().p;
-    let mut all: u32 = 1;
-    for k in 0..width.places() {
-        all = all * p;
-    }
-    all
+    S::BASE_NORM.pow(width.places())
 }
 
 // An element of z's class with both magnitudes below p^w; z less it is no farther from 0 than z.
-pub fn residue<C: Coordinate, S: Ruled>(system: &S, width: Width, z: Element<C>) -> Element<i32>
+pub fn residue<C: Coordinate, S: Ruled>(width: Width, z: Element<C>) -> Element<i32>
     requires { Below C.WORKING (meaning C.value z) }
     ensures small { Below (2 ^ 24) (short result) }
     ensures class { SameClass S.ring width.places (meaning C.value z) (short result) }
     ensures inward { Below C.WORKING (sub (meaning C.value z) (short result)) }
 {
-    z.rest(modulus(system, width) as i32)
+    z.rest(modulus::<S>(width) as i32)
 }

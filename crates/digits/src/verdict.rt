@@ -1,7 +1,7 @@
 use numbers::Element;
 
 // A verdict on a full set of digits.
-#[derive(Clone, Copy)]
+#[derive(Clone, Copy, Debug, PartialEq, Eq)]
 pub enum Verdict {
     // Every element has an expansion.
     Cleared,

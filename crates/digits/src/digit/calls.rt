@@ -1,4 +1,4 @@
-ghost use Rattle.std.specs.Prelude.{◌≡◌, Decides, MatchOption};
+ghost use Rattle.std.specs.Prelude.{◌≡◌, MatchOption};
 ghost use Rattle.ring.specs.Elem.{𝟘};
 ghost use Rattle.ring.specs.Class.{InRange};
 ghost use Rattle.numbers.specs.Meaning.{short};
@@ -41,12 +41,5 @@ impl Digit {
         ensures ranged { InRange (short result) }
     {
         self.element
-    }
-
-    // Whether two digits are the same.
-    pub fn same(self, other: Digit) -> bool
-        ensures { Decides result (elem_of self ≡ elem_of other) }
-    {
-        self.element.x == other.element.x && self.element.y == other.element.y
     }
 }

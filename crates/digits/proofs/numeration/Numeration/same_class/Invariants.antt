@@ -3,7 +3,7 @@ use Rattle.ring.specs.System.{pow}
 use Rattle.ring.specs.Class.{Divides}
 use Rattle.numbers.specs.Meaning.{short}
 use Rattle.digits.proofs.Powers.{Inside}
-use Rattle.digits.proofs.classes.same_class.Given as goal
+use Rattle.digits.proofs.numeration.Numeration.same_class.Given as goal
 
 abbrev pub invariant-loop-k : goal.invariant-loop-k
 invariant-loop-k g l =

@@ -7,10 +7,9 @@ ghost use Rattle.numbers.specs.Meaning.{meaning, short};
 ghost use Rattle.digits.specs.Digits.{elem_of, elems};
 ghost use Rattle.digits.specs.Stepping.{Stuck, Stepped};
 
-use crate::classes::digit_of;
 use crate::digit::Digit;
+use crate::numeration::Numeration;
 use crate::residues::residue;
-use crate::width::Width;
 use numbers::{Asks, Coordinate, Element};
 
 // (z − d)/β, where β divides z − near and near − d: their quotients, added. Neither difference leaves the working limit, whatever z below it.
@@ -31,25 +30,22 @@ pub fn remainder<C: Coordinate, S: Asks<C> + Asks<i32>>(
     high.plus(Element::from_short(low))
 }
 
-// The step from z: no digit and z/β where β divides z, else the digit of z's class and (z − d)/β.
-// None exactly where z is not below the working limit, or β does not divide it and no digit of the list is of its class.
-pub fn step<C: Coordinate, S: Asks<C> + Asks<i32>>(
-    system: &S,
-    width: Width,
-    digits: &[Digit],
-    z: Element<C>,
-) -> Option<(Digit, Element<C>)>
-    ensures { MatchOption result (Stuck S.ring C.WORKING width.places (elems digits.now) (meaning C.value z)) (λ p. Stepped S.ring C.WORKING width.places (elems digits.now) (meaning C.value z) (elem_of p.0) (meaning C.value p.1)) }
-{
-    if !z.works() {
-        return None;
-    }
-    if system.divides(&z) {
-        return Some((Digit::none(), system.quotient(&z)));
-    }
-    let near = residue(system, width, z);
-    match digit_of(system, width, digits, near) {
-        Some(digit) => Some((digit, remainder(system, z, near, digit))),
-        None => None,
+impl<'s, 'd, S: Asks<i32>> Numeration<'s, 'd, S> {
+    // The step from z: no digit and z/β where β divides z, else the digit of z's class and (z − d)/β.
+    // None exactly where z is not below the working limit, or β does not divide it and no digit of the list is of its class.
+    pub fn step<C: Coordinate>(&self, z: Element<C>) -> Option<(Digit, Element<C>)>
+    where
+        S: Asks<C>,
+        ensures { MatchOption result (Stuck S.ring C.WORKING self.now.width.places (elems self.now.digits.now) (meaning C.value z)) (λ p. Stepped S.ring C.WORKING self.now.width.places (elems self.now.digits.now) (meaning C.value z) (elem_of p.0) (meaning C.value p.1)) }
+    {
+        if !z.works() {
+            return None;
+        }
+        if self.system.divides(&z) {
+            return Some((Digit::none(), self.system.quotient(&z)));
+        }
+        let near = residue::<C, S>(self.width, z);
+        let digit = self.digit_of(near)?;
+        Some((digit, remainder(self.system, z, near, digit)))
     }
 }

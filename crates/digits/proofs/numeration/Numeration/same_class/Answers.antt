@@ -6,7 +6,7 @@ use Rattle.ring.specs.Class.{Divides, SameClass}
 use Rattle.numbers.specs.Meaning.{short}
 use Rattle.digits.specs.Digits.{elem_of}
 use Rattle.digits.proofs.Powers.{Inside, inside_below, inside_quotient, below_inside, less_digit, begun, turn, stuck, finished}
-use Rattle.digits.proofs.classes.same_class.Goals as goal
+use Rattle.digits.proofs.numeration.Numeration.same_class.Goals as goal
 
 pub loop-k-init : goal.loop-k-init
 loop-k-init g c =
@@ -35,7 +35,7 @@ module _ (s : System) (n w : ℕ) (r a e d : Elem) (p : n ≡ w) (q : e ≡ d) (
 pub returns-then-not-divides : goal.returns-then-not-divides
 returns-then-not-divides g c =
     let s = g.S.Ruled.ring in
-    let start = of-difference s c.places-k-end.result c.args.width.places (short c.subtract-rest.result) (short c.args.a) (short c.element.result) (elem_of c.args.digit) c.places-k-end.ensures.is c.element.ensures.is c.subtract-rest.ensures in
+    let start = of-difference s c.places-k-end.result c.args.self.now.width.places (short c.subtract-rest.result) (short c.args.a) (short c.element.result) (elem_of c.args.digit) c.places-k-end.ensures.is c.element.ensures.is c.subtract-rest.ensures in
     let no = both_ways c.divides.result c.if-not-divides.true in (
       λ e. absurd (both_ways _ refl e),
       λ d. absurd (no (c.divides.ensures.1 (stuck s g.S.Ruled.lawful c.places-k-end.result c.loop-k.k (short c.loop-k.rest) c.loop-k-test.true (c.loop-k.invariant.2 (start d))))),
@@ -52,7 +52,7 @@ loop-k-preserved g c =
 pub returns : goal.returns
 returns g c =
     let s = g.S.Ruled.ring in
-    let end = to-difference s c.places-k-end.result c.args.width.places (short c.subtract-rest.result) (short c.args.a) (short c.element.result) (elem_of c.args.digit) c.places-k-end.ensures.is c.element.ensures.is c.subtract-rest.ensures in (
+    let end = to-difference s c.places-k-end.result c.args.self.now.width.places (short c.subtract-rest.result) (short c.args.a) (short c.element.result) (elem_of c.args.digit) c.places-k-end.ensures.is c.element.ensures.is c.subtract-rest.ensures in (
       λ _. end (c.loop-k.invariant.1 (finished s g.S.Ruled.lawful c.places-k-end.result c.loop-k.k (short c.loop-k.rest) c.loop-k-test.false)),
       λ _. refl,
     )

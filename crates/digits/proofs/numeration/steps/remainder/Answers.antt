@@ -5,9 +5,9 @@ use Rattle.ring.specs.Class.{Even}
 use Rattle.numbers.specs.Meaning.{meaning, short}
 use Rattle.digits.specs.Digits.{elem_of}
 use Rattle.digits.proofs.Parts.{quotient_below, sum_below, parts, near_less, wider}
-use Rattle.digits.proofs.steps.remainder.Given as given
-use Rattle.digits.proofs.steps.remainder.Goals as goal
-use Rattle.digits.proofs.steps.remainder.Goals.{After-from_short-2}
+use Rattle.digits.proofs.numeration.steps.remainder.Given as given
+use Rattle.digits.proofs.numeration.steps.remainder.Goals as goal
+use Rattle.digits.proofs.numeration.steps.remainder.Goals.{After-from_short-2}
 
 pub quotient-low-requires : goal.quotient-low-requires
 quotient-low-requires g c =
