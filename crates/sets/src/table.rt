@@ -1,7 +1,7 @@
-ghost use Rattle.std.specs.Prelude.{◌≡◌, ◌≤◌, length, take};
 ghost use Rattle.digits.specs.Digits.{elems};
 ghost use Rattle.sets.specs.Lists.{Different};
 
+use arrayvec::ArrayVec;
 use digits::digit::Digit;
 use digits::width::Width;
 
@@ -10,12 +10,10 @@ pub mod changes;
 pub mod fullness;
 
 // At most 128 digits, none twice, and a width. That their classes differ depends on the system, and is not said here.
-#[derive(Clone, Copy)]
+// The digits stand in the set itself: nothing is allocated, and nothing can be refused for want of memory.
+#[derive(Drop)]
 pub struct DigitSet {
-    table: [Digit; 128],
-    count: usize,
+    digits: ArrayVec<Digit, 128>,
     width: Width,
-    ghost whole: { length table ≡ 128 },
-    ghost most: { count ≤ 128 },
-    ghost once: { Different (elems (take count table)) },
+    ghost once: { Different (elems digits.items) },
 }

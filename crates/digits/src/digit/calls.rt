@@ -43,3 +43,12 @@ impl Digit {
         self.element
     }
 }
+
+// The digit 0: what a place holds that no digit is put in.
+impl Default for Digit {
+    ghost is_default = { λ d. elem_of d ≡ 𝟘 };
+
+    fn default() -> Digit {
+        Digit::none()
+    }
+}

@@ -5,7 +5,9 @@ ghost use Rattle.digits.specs.Digits.{elem_of, elems};
 ghost use Rattle.sets.specs.Held.{held, width_of};
 
 use crate::table::DigitSet;
+use arrayvec::ArrayVec;
 use digits::digit::Digit;
+use digits::numeration::Numeration;
 use digits::width::Width;
 
 impl DigitSet {
@@ -15,8 +17,7 @@ impl DigitSet {
         ensures wide { width_of result ≡ width.places }
     {
         DigitSet {
-            table: [Digit::none(); 128],
-            count: 0,
+            digits: ArrayVec::new(),
             width,
         }
     }
@@ -26,7 +27,7 @@ impl DigitSet {
         ensures is { result ≡ length (held self.now) }
         ensures most { result ≤ 128 }
     {
-        self.count
+        self.digits.len()
     }
 
     // The width.
@@ -40,38 +41,39 @@ impl DigitSet {
     pub fn as_slice(&self) -> &[Digit]
         ensures { elems result.now ≡ held self.now }
     {
-        &self.table[..self.count]
+        self.digits.as_slice()
+    }
+
+    // The digits and the width, with a system: what recoding goes by.
+    pub fn numeration<'s, 'd, S>(&'d self, system: &'s S) -> Numeration<'s, 'd, S>
+        ensures digits { elems result.digits.now ≡ held self.now }
+        ensures width { result.width.places ≡ width_of self.now }
+    {
+        Numeration {
+            system,
+            width: self.width,
+            digits: self.as_slice(),
+        }
     }
 
     // The digit at a place, and none past the end.
     pub fn digit(&self, place: usize) -> Option<Digit>
         ensures { MatchOption result (length (held self.now) ≤ place) (λ d. (place < length (held self.now)) × (elem_of d ≡ slice_index_or (held self.now) place 𝟘)) }
     {
-        if place < self.count {
-            return Some(self.table[place]);
-        }
-        None
+        self.as_slice().get(place).copied()
     }
 
     // The place of a digit, if it is held.
     pub fn place_of(&self, digit: Digit) -> Option<usize>
         ensures { MatchOption result (Has (held self.now) (elem_of digit) → ⊥) (λ i. (i < length (held self.now)) × HoldsAt (λ e. e ≡ elem_of digit) (held self.now) i) }
     {
-        for i in 0..self.count {
-            if self.table[i].same(digit) {
-                return Some(i);
-            }
-        }
-        None
+        self.as_slice().iter().position(|held| *held == digit)
     }
 
     // Whether a digit is held.
     pub fn holds(&self, digit: Digit) -> bool
         ensures { Decides result (Has (held self.now) (elem_of digit)) }
     {
-        match self.place_of(digit) {
-            Some(_) => true,
-            None => false,
-        }
+        self.place_of(digit).is_some()
     }
 }

@@ -7,13 +7,9 @@ ghost use Rattle.sets.specs.Held.{held, width_of};
 ghost use Rattle.sets.specs.Changes.{Added, Puttable, Taken, Unput};
 
 use crate::table::DigitSet;
-use digits::classes::digit_of;
 use digits::digit::Digit;
 use numbers::Asks;
 use refusals::Refusal;
-
-// The number of digits that a set has room for.
-const ROOM: usize = 128;
 
 impl DigitSet {
     // One more at the end.
@@ -22,15 +18,8 @@ impl DigitSet {
         requires other { Has (held self.old) (elem_of digit) → ⊥ }
         ensures { Added self.old self.new (elem_of digit) result }
     {
-        let count = self.count + 1;
-        let mut table = self.table;
-        table[self.count] = digit;
-        *self = DigitSet {
-            table,
-            count,
-            width: self.width,
-        };
-        count
+        self.digits.push(digit);
+        self.digits.len()
     }
 
     // Takes out what stands at a place, and moves the later ones down.
@@ -40,27 +29,15 @@ impl DigitSet {
         ensures width { width_of self.new ≡ width_of self.old }
         ensures number { result ≡ length (held self.new) }
     {
-        let count = self.count - 1;
-        let mut table = self.table;
-        for k in place..count {
-            table[k] = table[k + 1];
-        }
-        *self = DigitSet {
-            table,
-            count,
-            width: self.width,
-        };
-        count
+        self.digits.remove(place);
+        self.digits.len()
     }
 
     // Whether a digit of this one's class is held.
     pub fn has_class<S: Asks<i32>>(&self, system: &S, digit: Digit) -> bool
         ensures { Decides result (Classed S.ring (width_of self.now) (Has (held self.now)) (elem_of digit)) }
     {
-        match digit_of(system, self.width, self.as_slice(), digit.element()) {
-            Some(_) => true,
-            None => false,
-        }
+        self.numeration(system).digit_of(digit.element()).is_some()
     }
 
     // Puts the element (x, y) at the end, and answers how many digits are held. Refused as `putRows` says, and then nothing changes.
@@ -68,16 +45,11 @@ impl DigitSet {
     pub fn put<S: Asks<i32>>(&mut self, system: &S, x: i64, y: i64) -> Result<usize, Refusal>
         ensures { MatchResult result (λ n. Puttable S.ring (width_of self.old) (held self.old) (record { x = x; y = y }) × Added self.old self.new (record { x = x; y = y }) n) (λ e. Unput S.ring (width_of self.old) (held self.old) (record { x = x; y = y }) e × (self.new ≡ self.old)) }
     {
-        let Some(digit) = Digit::new(x, y) else {
-            return Err(Refusal::Range);
-        };
+        let digit = Digit::new(x, y).ok_or(Refusal::Range)?;
         if system.divides(&digit.element()) {
             return Err(Refusal::Even);
         }
-        if self.has_class(system, digit) {
-            return Err(Refusal::Doubled);
-        }
-        if self.len() == ROOM {
+        if self.has_class(system, digit) || self.digits.is_full() {
             return Err(Refusal::Doubled);
         }
         Ok(self.push(digit))
@@ -87,12 +59,8 @@ impl DigitSet {
     pub fn take(&mut self, x: i64, y: i64) -> Result<usize, Refusal>
         ensures { MatchResult result (λ n. Taken self.old self.new (record { x = x; y = y }) n) (λ e. (Has (held self.old) (record { x = x; y = y }) → ⊥) × (e ≡ Absent) × (self.new ≡ self.old)) }
     {
-        let Some(digit) = Digit::new(x, y) else {
-            return Err(Refusal::Absent);
-        };
-        match self.place_of(digit) {
-            Some(place) => Ok(self.remove(place)),
-            None => Err(Refusal::Absent),
-        }
+        let digit = Digit::new(x, y).ok_or(Refusal::Absent)?;
+        let place = self.place_of(digit).ok_or(Refusal::Absent)?;
+        Ok(self.remove(place))
     }
 }

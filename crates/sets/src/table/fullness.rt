@@ -3,9 +3,8 @@ ghost use Rattle.std.specs.List.{ContainsAt as Has};
 ghost use Rattle.ring.specs.Class.{Full};
 ghost use Rattle.sets.specs.Held.{held, width_of};
 
-use crate::classes::{class_count, unlike};
+use crate::classes::{apart, class_count};
 use crate::table::DigitSet;
-use digits::classes::all_odd;
 use numbers::Asks;
 
 impl DigitSet {
@@ -13,12 +12,6 @@ impl DigitSet {
     pub fn is_full<S: Asks<i32>>(&self, system: &S) -> bool
         ensures { Decides result (Full S.ring (width_of self.now) (Has (held self.now))) }
     {
-        if self.len() != class_count(system, self.width) as usize {
-            return false;
-        }
-        if !all_odd(system, self.as_slice()) {
-            return false;
-        }
-        unlike(system, self.width, self.as_slice())
+        self.len() == class_count::<S>(self.width) as usize && apart(self.numeration(system))
     }
 }
