@@ -2,14 +2,14 @@ use digits::digit::Digit;
 use numbers::Element;
 
 // One step of a recoding: its digit and its remainder.
-#[derive(Clone, Copy)]
+#[derive(Clone, Copy, Debug, PartialEq, Eq)]
 pub struct Entry<C> {
     pub digit: Digit,
     pub remainder: Element<C>,
 }
 
 // Why an element was not recoded.
-#[derive(Clone, Copy)]
+#[derive(Clone, Copy, Debug, PartialEq, Eq)]
 pub enum Unexpanded {
     // The base divides a digit of the list.
     Even,

@@ -6,5 +6,5 @@ use Rattle.recoding.proofs.recode.expand.Given as goal
 
 abbrev pub invariant-loop-k : goal.invariant-loop-k
 invariant-loop-k g l =
-    Leads g.C.Coordinate.value g.S.Ruled.ring l.width.places (elems l.digits) (meaning g.C.Coordinate.value l.initial.rest) (take l.k l.entries) (meaning g.C.Coordinate.value l.rest)
+    Leads g.C.Coordinate.value g.S.Ruled.ring l.numeration.width.places (elems l.numeration.digits.now) (meaning g.C.Coordinate.value l.initial.rest) (take l.k l.entries) (meaning g.C.Coordinate.value l.rest)
     × (drop l.k l.entries ≡ drop l.k l.initial.entries)
