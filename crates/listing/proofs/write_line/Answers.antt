@@ -3,16 +3,6 @@ use Rattle.listing.specs.Lines.{fields}
 use Rattle.listing.proofs.Wrote.{Wrote, wrote_byte, wrote_more, wrote_front, length_fields, length_line}
 use Rattle.listing.proofs.write_line.Goals as goal
 
-pub write_fields-end-requires : goal.write_fields-end-requires
-write_fields-end-requires c = omega (arith, c.requires.0, length_fields c.args.numbers.now c.requires.1, c.write_bytes-at.auto.out)
-
-pub bounds-out-end : goal.bounds-out-end
-bounds-out-end c =
-    omega (arith, c.requires.0, length_fields c.args.numbers.now c.requires.1, c.write_bytes-at.auto.out, c.write_fields-end.auto.out)
-
-pub overflow_add-result : goal.overflow_add-result
-overflow_add-result c = omega (arith, c.requires.0, length_fields c.args.numbers.now c.requires.1)
-
 pub returns : goal.returns
 returns c =
     let s = c.args.out.now in
