@@ -111,7 +111,8 @@ fn write_fields(out: &mut [u8], at: usize, numbers: &[i64]) -> usize
 // Writes a line: its head, its numbers, and the byte that ends it.
 #[tactic(auto, using(crate::proofs::Wrote::length_fields, crate::proofs::Wrote::length_line))]
 fn write_line(out: &mut [u8], head: &[u8], numbers: &[i64]) -> Result<usize, Refusal>
-    requires { (length head.now + (most + 2) * length numbers.now < room) × (AllByRecursion Writable numbers.now) }
+    requires fits { length head.now + (most + 2) * length numbers.now < room }
+    requires writable { AllByRecursion Writable numbers.now }
     ensures { Printed result out.old out.new (line_of head.now numbers.now) }
 {
     if out.len() < ROOM {

@@ -11,13 +11,9 @@ use Rattle.listing.specs.declared.Line.{Line}
 
 -- the line for how many digits are held, after a put or a take
 abbrev pub held_line : Call → ℕ → List ℕ
-held_line (call.Width w) n = []
 held_line (call.Put x y) n = put_line n
 held_line (call.Take x y) n = take_line n
-held_line call.Check n = []
-held_line (call.Load z) n = []
-held_line call.Tick n = []
-held_line call.Abandon n = []
+held_line _ n = []
 
 abbrev pub verdict_line : Verdict → List ℕ
 verdict_line verdict.Cleared = cleared_line
@@ -40,10 +36,5 @@ text_of_reply None = []
 
 -- the number of digits held that an answer tells is a number of 32 bits
 abbrev pub Counted : Answer → Type 0
-Counted (answer.Classes n) = Unit {0}
 Counted (answer.Held n) = n < 2 ^ 32
-Counted (answer.Judged v) = Unit {0}
-Counted answer.Loaded = Unit {0}
-Counted (answer.Digit d) = Unit {0}
-Counted answer.Abandoned = Unit {0}
-Counted (answer.Refused why) = Unit {0}
+Counted _ = Unit {0}
