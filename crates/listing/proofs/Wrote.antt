@@ -1,5 +1,5 @@
 -- A line while it is written.
-use Rattle.std.proofs.Common.{◌≡◌, ℕ, ◌+◌, ◌*◌, ◌<◌, ◌≤◌, List, [], ◌∷◌, ◌++◌, length, get_or, take, drop, set, ℤ, pos, sym, refl, ap, ◌∙◌, append_assoc, append-nil, arith, length-append, take-append-drop}
+use Rattle.std.proofs.Common.{◌≡◌, ℕ, ◌+◌, ◌*◌, ◌<◌, ◌≤◌, List, [], ◌∷◌, ◌++◌, length, get_or, take, drop, set, ℤ, pos, sym, refl, ap, ◌∙◌, subst, append_assoc, append-nil, arith, length-append, take-append-drop}
 use Rattle.std.specs.List.{AllByRecursion}
 use Rattle.std.proofs.lemmas.List.{take_more, length_push}
 use Rattle.numerals.specs.Numeral.{most, written, Writable}
@@ -54,6 +54,15 @@ module _ (xs : List ℤ) (i : ℕ) (lt : i < length xs) where
       let whole : length (fields xs) ≡ length (fields (take (i + 1) xs)) + length (fields (drop (i + 1) xs)) =
       ap (λ l. length (fields l)) (sym (take-append-drop (i + 1) xs)) ∙ ap length (fields_append (take (i + 1) xs) (drop (i + 1) xs)) ∙ length-append (fields (take (i + 1) xs)) (fields (drop (i + 1) xs)) in
       omega (arith, ap length fields_more, length-append (front ++ (44 ∷ [])) (written x), length-append front (44 ∷ []))
+
+-- a field more is written behind those before it
+pub wrote_field : (s : List ℕ) (start : ℕ) (xs : List ℤ) (i : ℕ) → start + length (fields xs) ≤ length s → i < length xs → (out : List ℕ) (at : ℕ) → Wrote s start (fields (take i xs)) out at → (out' : List ℕ) (at' : ℕ) → out' ≡ overwrite (set out at 44) (at + 1) (written (get_or xs i (pos 0))) → at' ≡ at + 1 + length (written (get_or xs i (pos 0))) → Wrote s start (fields (take (i + 1) xs)) out' at'
+wrote_field s start xs i h lt out at w out' at' o e =
+    let x = get_or xs i (pos 0) in
+    let long = length_push (fields (take i xs)) 44 in
+    let room = fields_room xs i lt in
+    let b = wrote_byte _ _ _ _ _ w 44 (omega arith) in
+    subst (λ l. Wrote s start l out' at') (sym (fields_more xs i lt)) (wrote_more _ _ _ _ _ b (written x) _ _ o e (omega arith))
 
 -- numbers that can be written take few bytes
 pub length_fields : (xs : List ℤ) → AllByRecursion Writable xs → length (fields xs) ≤ (most + 2) * length xs

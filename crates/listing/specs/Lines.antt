@@ -4,6 +4,8 @@ use Rattle.refusals.specs.declared.Refusal.{Refusal}
 use Rattle.refusals.specs.declared.Refusal.TheVariants.{Narrow}
 use Rattle.refusals.specs.Refusal.{number_of}
 use Rattle.numerals.specs.Numeral.{written}
+use Rattle.listing.specs.declared.Line.{Line}
+use Rattle.listing.specs.declared.Line.TheVariants as line
 
 -- the fewest bytes of a buffer that a line is written into
 abbrev pub room : ℕ
@@ -47,6 +49,19 @@ run_line ticks total = line_of (codes "L") (pos ticks ∷ pos total ∷ [])
 
 abbrev pub refusal_line : Refusal → ℕ → List ℕ
 refusal_line why line = line_of (codes "N") (pos (number_of why) ∷ pos line ∷ [])
+
+-- the bytes of a line
+abbrev pub text_of : Line → List ℕ
+text_of (line.System p) = system_line p
+text_of (line.Width classes) = width_line classes
+text_of (line.Put held) = put_line held
+text_of (line.Take held) = take_line held
+text_of line.Cleared = cleared_line
+text_of (line.Barred x y lead period) = barred_line x y lead period
+text_of line.Load = load_line
+text_of (line.Tick x y) = tick_line x y
+text_of (line.Run ticks total) = run_line ticks total
+text_of (line.Refused why number) = refusal_line why number
 
 -- r answers a call that finds a buffer before and leaves it after: the line stands in front, its length is answered, and the rest is as it was; or the buffer is too short, and is as it was
 abbrev pub Printed : Result ℕ Refusal → List ℕ → List ℕ → List ℕ → Type 0

@@ -1,3 +1,4 @@
 pub mod Sinks
+pub mod Texts
 pub mod Asked
 pub mod Reply

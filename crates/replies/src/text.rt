@@ -1,50 +1,46 @@
 // A text that grows in memory.
-ghost use Rattle.std.specs.Prelude.{◌≡◌, false, not, []};
+ghost use Rattle.std.specs.Prelude.{◌≡◌, [], Some, alloc_error, ok_or};
+ghost use Rattle.replies.specs.Sinks.{Given};
+ghost use Rattle.replies.specs.Texts.{held_of, Keeps};
 
 use crate::sink::Sink;
-use std::alloc::Global;
+use std::alloc::{AllocError, Global};
 
-// The bytes so far, and whether some found no memory.
-#[derive(Drop)]
+// The bytes so far, and none once some found no memory.
+#[derive(Debug, Drop)]
 pub struct Text {
-    bytes: Vec<u8>,
-    lost: bool,
+    bytes: Option<Vec<u8>>,
 }
 
 impl Text {
     // An empty text.
     pub fn new(heap: Global) -> Text
-        ensures { (result.bytes.items ≡ []) × (result.lost ≡ false) }
+        ensures { held_of result ≡ Some [] }
     {
         Text {
-            bytes: Vec::new(heap),
-            lost: false,
+            bytes: Some(Vec::new(heap)),
         }
     }
 
-    // Whether no bytes were lost.
-    pub fn is_whole(&self) -> bool
-        ensures { result ≡ not self.now.lost }
+    // The bytes, or that some found no memory.
+    pub fn into_bytes(self) -> Result<Vec<u8>, AllocError>
+        ensures { result ≡ ok_or self.bytes alloc_error }
     {
-        !self.lost
-    }
-
-    // The bytes.
-    pub fn as_slice(&self) -> &[u8]
-        ensures { result.now ≡ self.now.bytes.items }
-    {
-        self.bytes.as_slice()
+        self.bytes.ok_or(AllocError)
     }
 }
 
 impl Sink for Text {
-    ghost lost = { λ t. t.lost };
+    ghost held = { held_of };
 
-    ghost written = { λ t. t.bytes.items };
-
-    fn write(&mut self, bytes: &[u8]) {
-        if self.bytes.extend_from_slice(bytes).is_err() {
-            self.lost = true;
+    fn write(&mut self, bytes: &[u8])
+        ensures given { Given held_of self.old self.new bytes.now }
+        ensures kept { Keeps self.old self.new bytes.now }
+    {
+        if let Some(held) = &mut self.bytes {
+            if held.extend_from_slice(bytes).is_err() {
+                self.bytes = None;
+            }
         }
     }
 }

@@ -80,12 +80,22 @@ mod tests {
     #[test]
     fn writes(rt: HostRuntime) {
         let mut buf = [7u8; 80];
-        let n = listing::barred_line(&mut buf, -15, 255, 0, 16);
+        let barred = listing::Line::Barred {
+            x: -15,
+            y: 255,
+            lead: 0,
+            period: 16,
+        };
+        let n = barred.write(&mut buf);
         assert!(rt; matches!(n, Ok(20)));
         assert_eq!(rt; &buf[0..22], b"C,barred,-f,ff,0,10\n\x07\x07".as_slice());
-        let n = listing::refusal_line(&mut buf, Refusal::Line, 1);
+        let refused = listing::Line::Refused {
+            why: Refusal::Line,
+            line: 1,
+        };
+        let n = refused.write(&mut buf);
         assert!(rt; matches!(n, Ok(6)));
         assert_eq!(rt; &buf[0..6], b"N,e,1\n".as_slice());
-        assert!(rt; listing::load_line(&mut buf[0..79]).is_err());
+        assert!(rt; listing::Line::Load.write(&mut buf[0..79]).is_err());
     }
 }
