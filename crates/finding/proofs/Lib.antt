@@ -1,3 +1,3 @@
 pub mod Sink
-pub mod Sieve
+pub mod Sifted
 pub mod Nested

@@ -1,5 +1,5 @@
 -- The elements before (norm, x, y) come to 0.
-use Rattle.std.proofs.Common.{◌≡◌, ℕ, zero, suc, ◌+◌, ◌<◌, ℤ, pos, ◌+ℤ◌, neg_ℤ, ◌≤ℤ◌, ◌<ℤ◌, sym, refl, ap, ◌∙◌, subst, inl, ⊎_elim, arith}
+use Rattle.std.proofs.Common.{◌≡◌, ℕ, zero, suc, Option, None, Some, ◌+◌, ◌<◌, ℤ, pos, ◌+ℤ◌, neg_ℤ, ◌≤ℤ◌, ◌<ℤ◌, ◌⊎◌, sym, refl, ap, ◌∙◌, subst, inl, ⊎_elim, arith}
 use native.Mathlib.Decide.{dec_lt}
 use Rattle.std.proofs.lemmas.Int.{ints, by_lt_z}
 use Rattle.ring.specs.Elem.{Elem, 𝟘}
@@ -10,12 +10,11 @@ use Rattle.ring.proofs.Magnitudes.{size_zero}
 use Rattle.ring.proofs.Elements.{same}
 use Rattle.ring.proofs.Trails.{never}
 use Rattle.rounds.specs.Rounds.{after, Falls, Runs}
-use Rattle.rounds.specs.declared.cycles.Course.{Course}
-use Rattle.rounds.specs.declared.cycles.Course.TheVariants as course
+use Rattle.rounds.specs.declared.cycles.Orbit.{Orbit}
 use Rattle.rounds.proofs.Orders.{to_before, of_before}
-use Rattle.rounds.proofs.Trails.{steady}
+use Rattle.rounds.proofs.Trails.{from_there, steady}
 use Rattle.finding.specs.Finding.{point, Ends, Inner, Bounds, First, Tried}
-use Rattle.finding.proofs.Sink.{inside, ends_from, after_after}
+use Rattle.finding.proofs.Sink.{inside, ends_from}
 
 -- each of norm n left of x
 abbrev pub Left : (Elem → Elem) → System → ℕ → ℤ → Type 0
@@ -49,13 +48,13 @@ module _ (next : Elem → Elem) (s : System) (g : Lawful s) (n : ℕ) where
 
   -- 0 stays, so that what returns elsewhere never comes there
   stays : next 𝟘 ≡ 𝟘 → (z : Elem) (k m : ℕ) → after next k z ≡ 𝟘 → after next (k + m) z ≡ 𝟘
-  stays r z k m e = sym (after_after next z k m) ∙ ap (after next m) e ∙ at m
+  stays r z k m e = sym (from_there next z k m _ refl) ∙ ap (after next m) e ∙ at m
     where
       at : (m : ℕ) → after next m 𝟘 ≡ 𝟘
       at zero = refl
       at (suc m) = ap next (at m) ∙ r
 
-  pub found : next 𝟘 ≡ 𝟘 → 0 < n → (low x y : ℤ) → low ≤ℤ x → low ≤ℤ y → (lead period : ℕ) → Inner next s n → Left next s n x → Under next s n x y → size s (point x y) ≡ n → Runs next s (point x y) (course.Cycles lead period) → First next s (point x y) lead period
+  pub found : next 𝟘 ≡ 𝟘 → 0 < n → (low x y : ℤ) → low ≤ℤ x → low ≤ℤ y → (lead period : ℕ) → Inner next s n → Left next s n x → Under next s n x y → size s (point x y) ≡ n → Runs next s (point x y) (Some (record { lead = lead; period = period })) → First next s (point x y) lead period
   found r o low x y _ _ lead period b l u e t =
       let z = point x y in
       record {
@@ -86,6 +85,16 @@ module _ (next : Elem → Elem) (s : System) (g : Lawful s) (n : ℕ) where
         by (no k) = let q : size s z ≡ n = omega arith in let i = inside s g n c bounds z (omega arith) in l z q (omega (arith, ints, i.0))
 
 -- how the trail of an element of norm n goes
-pub tried_is : (next : Elem → Elem) (s : System) (n : ℕ) (z : Elem) (r : Course) → size s z ≡ n → Runs next s z r → Tried next s n z r
-tried_is next s n z course.Falls e h = λ _. h
-tried_is next s n z (course.Cycles lead period) e h = (e, h)
+pub tried_is : (next : Elem → Elem) (s : System) (n : ℕ) (z : Elem) (r : Option Orbit) → size s z ≡ n → Runs next s z r → Tried next s n z r
+tried_is next s n z None e h = λ _. h
+tried_is next s n z (Some o) e h = (e, h)
+
+-- what is told where a loop over −c to c ended: before a turn past c, or after the turn at c
+module _ (next : Elem → Elem) (s : System) (g : Lawful s) (n : ℕ) (c : ℤ) (o : pos 0 ≤ℤ c) (bounds : Bounds n c) (below : Inner next s n) where
+  pub column_done : (low x y x' : ℤ) → low ≤ℤ x → low ≤ℤ y → x' ≡ x +ℤ pos 1 → Left next s n x → Under next s n x y → (c <ℤ y) ⊎ ((c ≤ℤ y) × (size s (point x y) ≡ n → Falls next s (point x y))) → Left next s n x'
+  column_done low x y x' lx ly e l u = ⊎_elim (λ past. left_more next s g n c o bounds low x x' y lx ly past e l u)
+      (λ r. left_more next s g n c o bounds low x x' (y +ℤ pos 1) lx (omega (arith, ints, ly)) (omega (arith, ints, r.0)) e l (under_more next s g n low x y (y +ℤ pos 1) lx ly refl below l u r.1))
+
+  pub rows_done : (low x : ℤ) → low ≤ℤ x → Left next s n x → (c <ℤ x) ⊎ ((c ≤ℤ x) × Left next s n (x +ℤ pos 1)) → Inner next s (n + 1)
+  rows_done low x lx l = ⊎_elim (λ past. below_more next s g n c o bounds low x lx past below l)
+      (λ r. below_more next s g n c o bounds low (x +ℤ pos 1) (omega (arith, ints, lx)) (omega (arith, ints, r.0)) below r.1)

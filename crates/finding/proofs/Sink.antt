@@ -1,5 +1,5 @@
 -- Elements that fall come to 0.
-use Rattle.std.proofs.Common.{◌≡◌, ℕ, zero, suc, ◌+◌, ◌*◌, ◌<◌, ◌≤◌, ◌⊎◌, ℤ, pos, negsuc, nat_abs, ◌<ℤ◌, sym, ap, ◌∙◌, inl, inr, ⊎_elim, add-zero, add-suc, arith}
+use Rattle.std.proofs.Common.{◌≡◌, ℕ, zero, suc, ◌+◌, ◌*◌, ◌<◌, ◌≤◌, ◌⊎◌, ℤ, pos, negsuc, nat_abs, ◌<ℤ◌, sym, refl, ap, ◌∙◌, inl, inr, ⊎_elim, add-zero, add-suc, arith}
 use native.Mathlib.Decide.{dec_lt}
 use Rattle.std.proofs.lemmas.Int.{ints}
 use Rattle.ring.specs.Elem.{Elem}
@@ -8,15 +8,11 @@ use Rattle.ring.specs.Verdict.{Before}
 use Rattle.ring.proofs.Boxes.{In, off, code, code_high, in_box}
 use Rattle.rounds.specs.Rounds.{after}
 use Rattle.rounds.proofs.Orders.{side, boxed, of_before}
+use Rattle.rounds.proofs.Trails.{from_there}
 use Rattle.finding.specs.Finding.{Ends, Bounds, Shell, Inner}
 
--- k steps, then j
-pub after_after : (next : Elem → Elem) (z : Elem) (k j : ℕ) → after next j (after next k z) ≡ after next (k + j) z
-after_after next z k zero = ap (λ i. after next i z) (sym (add-zero k))
-after_after next z k (suc j) = ap next (after_after next z k j) ∙ ap (λ i. after next i z) (sym (add-suc k j))
-
 pub ends_from : (next : Elem → Elem) (z : Elem) (k : ℕ) → Ends next (after next k z) → Ends next z
-ends_from next z k h = (k + h.0, sym (after_after next z k h.0) ∙ h.1)
+ends_from next z k h = (k + h.0, sym (from_there next z k h.0 _ refl) ∙ h.1)
 
 pub inside : (s : System) → Lawful s → (top : ℕ) (c : ℤ) → Bounds top c → (z : Elem) → size s z ≤ top → In (nat_abs c) z
 inside s g top c h z l = in_box s g top (nat_abs c) h z l

@@ -1,13 +1,12 @@
 -- What the search tells.
-use Rattle.std.specs.Prelude.{◌≡◌, ℕ, ◌+◌, ◌*◌, ◌<◌, ◌≤◌, ℤ, unsigned_abs}
+use Rattle.std.specs.Prelude.{◌≡◌, ℕ, ◌+◌, ◌*◌, ◌<◌, ◌≤◌, ℤ, unsigned_abs, Option, Some, MatchOption}
 use Rattle.ring.specs.Elem.{Elem, 𝟘}
 use Rattle.ring.specs.System.{System, size}
 use Rattle.ring.specs.Trail.{LeadPeriod}
 use Rattle.ring.specs.Verdict.{Before}
 use Rattle.numbers.specs.Meaning.{short}
 use Rattle.rounds.specs.Rounds.{after, Falls, Runs}
-use Rattle.rounds.specs.declared.cycles.Course.{Course}
-use Rattle.rounds.specs.declared.cycles.Course.TheVariants as course
+use Rattle.rounds.specs.declared.cycles.Orbit.{Orbit}
 use Rattle.digits.specs.declared.verdict.Verdict.{Verdict}
 use Rattle.digits.specs.declared.verdict.Verdict.TheVariants.{Cleared, Barred}
 
@@ -35,9 +34,8 @@ abbrev pub Inner : (Elem → Elem) → System → ℕ → Type 0
 Inner next s n = (z : Elem) → size s z < n → Ends next z
 
 -- how the trail of z goes, if z is of norm n
-abbrev pub Tried : (Elem → Elem) → System → ℕ → Elem → Course → Type 0
-Tried next s n z course.Falls = size s z ≡ n → Falls next s z
-Tried next s n z (course.Cycles l p) = (size s z ≡ n) × Runs next s z (course.Cycles l p)
+abbrev pub Tried : (Elem → Elem) → System → ℕ → Elem → Option Orbit → Type 0
+Tried next s n z r = MatchOption r (size s z ≡ n → Falls next s z) (λ o. (size s z ≡ n) × Runs next s z (Some o))
 
 -- z does not come to 0, every element before z does, and the trail of z has lead l and period p
 pub record First (next : Elem → Elem) (s : System) (z : Elem) (l p : ℕ) : Type 0 where

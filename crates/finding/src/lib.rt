@@ -4,6 +4,8 @@
 
 mod first;
 mod shells;
+mod sieve;
 
 pub use first::{search, tried};
-pub use shells::{cleared_to, column, lowered, reach, sift};
+pub use shells::{cleared_to, reach};
+pub use sieve::Sieve;

@@ -5,8 +5,9 @@ ghost use Rattle.ring.specs.System.{size};
 ghost use Rattle.rounds.specs.Rounds.{Falls};
 ghost use Rattle.finding.specs.Finding.{point, Bounds, Column, Shell, Inner};
 
+use crate::sieve::Sieve;
 use numbers::Element;
-use rounds::{Dynamics, find_cycle};
+use rounds::{Dynamics, Trail};
 
 // A magnitude that no coordinate passes where the norm is at most `top`.
 pub fn reach(top: u32) -> i32
@@ -15,77 +16,67 @@ pub fn reach(top: u32) -> i32
     ensures high { result ≤ℤ pos 2046 }
     ensures bounds { Bounds top result }
 {
-    for c in 0..2046u32 {
-        if 4 * top < 3 * (c + 1) * (c + 1) {
-            return c as i32;
+    (4 * top / 3).isqrt() as i32
+}
+
+impl<'d, D: Dynamics> Sieve<'d, D> {
+    // The norm of (x, y) if it lies from `from` below `least` and the trail of (x, y) never falls, else `least`.
+    pub fn lowered(&self, least: u32, x: i32, y: i32) -> u32
+        requires near { (unsigned_abs x < 2048) × (unsigned_abs y < 2048) }
+        requires small { least ≤ self.now.top + 1 }
+        ensures down { result ≤ least }
+        ensures from { self.now.from ≤ least → self.now.from ≤ result }
+        ensures falls { self.now.from ≤ size (D.ring self.now.map.now) (point x y) → size (D.ring self.now.map.now) (point x y) < result → Falls (D.next self.now.map.now) (D.ring self.now.map.now) (point x y) }
+    {
+        let z = Element { x, y };
+        let norm = self.map.norm(z);
+        if norm < self.from || least <= norm {
+            return least;
+        }
+        match Trail::new(self.map, z).find_cycle() {
+            Some(_) => norm,
+            None => least,
         }
     }
-    2046
-}
 
-// The norm of (x, y) if it lies from `from` below `least` and the trail of (x, y) never falls, else `least`.
-pub fn lowered<D: Dynamics>(d: &D, from: u32, least: u32, x: i32, y: i32) -> u32
-    requires near { (unsigned_abs x < 2048) × (unsigned_abs y < 2048) }
-    requires small { least ≤ D.cap d.now + 1 }
-    ensures down { result ≤ least }
-    ensures from { from ≤ least → from ≤ result }
-    ensures falls { from ≤ size (D.ring d.now) (point x y) → size (D.ring d.now) (point x y) < result → Falls (D.next d.now) (D.ring d.now) (point x y) }
-{
-    let z = Element { x, y };
-    let n = d.norm(z);
-    if n < from || least <= n {
-        return least;
+    // `least`, lowered by every (x, y) with y from −reach to reach.
+    pub fn column(&self, least: u32, x: i32) -> u32
+        requires near { unsigned_abs x < 2048 }
+        requires small { least ≤ self.now.top + 1 }
+        ensures down { result ≤ least }
+        ensures from { self.now.from ≤ least → self.now.from ≤ result }
+        ensures falls { Column (D.next self.now.map.now) (D.ring self.now.map.now) self.now.from result self.now.reach x }
+    {
+        let mut lowest = least;
+        for y in -self.reach..=self.reach {
+            lowest = self.lowered(lowest, x, y);
+        }
+        lowest
     }
-    match find_cycle(d, z) {
-        Some(_) => n,
-        None => least,
-    }
-}
 
-// `least`, lowered by every (x, y) with y from −c to c.
-pub fn column<D: Dynamics>(d: &D, from: u32, least: u32, x: i32, c: i32) -> u32
-    requires near { (unsigned_abs x < 2048) × ((pos 0 ≤ℤ c) × (c ≤ℤ pos 2046)) }
-    requires small { least ≤ D.cap d.now + 1 }
-    ensures down { result ≤ least }
-    ensures from { from ≤ least → from ≤ result }
-    ensures falls { Column (D.next d.now) (D.ring d.now) from result c x }
-{
-    let low = -c;
-    let high = c + 1;
-    let mut lowest = least;
-    for y in low..high {
-        lowest = lowered(d, from, lowest, x, y);
+    // The least norm, from `from` to `top`, of an element whose trail never falls, or top + 1.
+    pub fn sift(&self) -> u32
+        ensures down { result ≤ self.now.top + 1 }
+        ensures from { self.now.from ≤ result }
+        ensures falls { Shell (D.next self.now.map.now) (D.ring self.now.map.now) self.now.from result }
+    {
+        let mut least = self.top + 1;
+        for x in -self.reach..=self.reach {
+            least = self.column(least, x);
+        }
+        least
     }
-    lowest
-}
-
-// The least norm, from `from` to `top`, of an element whose trail never falls, or top + 1.
-pub fn sift<D: Dynamics>(d: &D, from: u32, top: u32) -> u32
-    requires { (top ≤ D.cap d.now) × (from ≤ top + 1) }
-    ensures down { result ≤ top + 1 }
-    ensures from { from ≤ result }
-    ensures falls { Shell (D.next d.now) (D.ring d.now) from result }
-{
-    let c = reach(top);
-    let low = -c;
-    let high = c + 1;
-    let mut least = top + 1;
-    for x in low..high {
-        least = column(d, from, least, x, c);
-    }
-    least
 }
 
 // A norm below which every element comes to 0: `clear` where that is above `norm`, else from the shell of the norms up to twice `norm`.
-pub fn cleared_to<D: Dynamics>(d: &D, clear: u32, norm: u32, bound: u32) -> u32
-    requires small { (bound ≤ D.cap d.now) × ((norm ≤ bound) × (clear ≤ bound + 1)) }
-    requires ends { (Inner (D.next d.now) (D.ring d.now) norm) × (Inner (D.next d.now) (D.ring d.now) clear) }
+pub fn cleared_to<D: Dynamics>(map: &D, clear: u32, norm: u32, bound: u32) -> u32
+    requires small { (bound ≤ D.cap map.now) × ((norm ≤ bound) × (clear ≤ bound + 1)) }
+    requires ends { (Inner (D.next map.now) (D.ring map.now) norm) × (Inner (D.next map.now) (D.ring map.now) clear) }
     ensures down { result ≤ bound + 1 }
-    ensures ends { Inner (D.next d.now) (D.ring d.now) result }
+    ensures ends { Inner (D.next map.now) (D.ring map.now) result }
 {
     if norm < clear {
         return clear;
     }
-    let top = if norm < bound - norm { 2 * norm } else { bound };
-    sift(d, norm, top)
+    Sieve::new(map, norm, bound.min(2 * norm)).sift()
 }

@@ -1,5 +1,5 @@
 -- The order by natural numbers is ring's; and the box that the elements of small norm stand in.
-use Rattle.std.proofs.Common.{ℕ, ◌<◌, ◌≤◌, pos, nat_abs, ◌<ℤ◌, sym, ap, ◌∙◌, subst₂, inl, inr, ⊎_elim, arith}
+use Rattle.std.proofs.Common.{◌≡◌, ◌≢◌, ℕ, ◌<◌, ◌≤◌, ℤ, pos, nat_abs, ◌<ℤ◌, false, ◌&&◌, int_eq, sym, ap, ◌∙◌, subst₂, inl, inr, ⊎_elim, arith, rules}
 use lib.Signed.{<ℤ_irrefl}
 use Rattle.std.proofs.lemmas.Int.{ints}
 use Rattle.ring.specs.Elem.{Elem, Below}
@@ -7,6 +7,8 @@ use Rattle.ring.specs.System.{System, Lawful, size}
 use Rattle.ring.specs.Verdict.{Before}
 use Rattle.ring.proofs.Norms.{size_is}
 use Rattle.ring.proofs.Boxes.{In, in_box}
+use Rattle.numbers.specs.Meaning.{short}
+use Rattle.numbers.specs.declared.elements.Element.{Element}
 use Rattle.rounds.specs.Order.{Ordered}
 
 below_in : (m n : ℕ) → m < n → pos m <ℤ pos n
@@ -36,3 +38,7 @@ module _ (s : System) (g : Lawful s) (M : ℕ) (small : M ≤ 1600000) where
 
   pub near : (a : Elem) → size s a ≤ M → Below 2048 a
   near a h = let b = boxed a h in record { in_x = omega (arith, b.0); in_y = omega (arith, b.1) }
+
+-- ---- what `==` tells of two elements
+pub apart : (a b : Element ℤ) → false ≡ (int_eq a.x b.x && int_eq a.y b.y) → short a ≢ short b
+apart a b h e = search rules

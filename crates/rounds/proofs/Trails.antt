@@ -1,12 +1,13 @@
 -- Trails of a map: where they return.
-use Rattle.std.proofs.Common.{◌≡◌, ℕ, zero, suc, ◌+◌, ◌-◌, ◌*◌, ◌<◌, ◌≤◌, ◌≢◌, sym, ap, ◌∙◌, subst, ⊎_elim, add-one, arith}
+use Rattle.std.proofs.Common.{◌≡◌, ℕ, zero, suc, ◌+◌, ◌-◌, ◌*◌, ◌<◌, ◌≤◌, ◌≢◌, sym, ap, ◌∙◌, subst, ⊎_elim, add-zero, add-one, add-suc, arith}
 use Rattle.ring.specs.Elem.{Elem}
 use Rattle.ring.specs.System.{System, Lawful, size}
 use Rattle.ring.specs.Trail.{LeadPeriod}
+use Rattle.ring.specs.Verdict.{Before}
 use Rattle.ring.proofs.Pigeonhole.{pigeonhole, below}
 use Rattle.ring.proofs.Trails.{shift, round}
 use Rattle.ring.proofs.Boxes.{In, code, code_high, code_one}
-use Rattle.rounds.specs.Rounds.{after, CycleAt, LeadIs}
+use Rattle.rounds.specs.Rounds.{after, Falls, ReturnsAfter, Passes, CycleAt, LeadIs}
 use Rattle.rounds.proofs.Orders.{side, boxed}
 
 module _ (next : Elem → Elem) (z : Elem) where
@@ -16,12 +17,26 @@ module _ (next : Elem → Elem) (z : Elem) where
   pub more : (k : ℕ) (a b : Elem) → a ≡ f k → b ≡ next a → b ≡ f (k + 1)
   more k a b e h = rw add-one (h ∙ ap next e)
 
-  pub on : (i k : ℕ) (a b : Elem) → a ≡ f (i + k) → b ≡ next a → b ≡ f (i + (k + 1))
-  on i k a b e h = more (i + k) a b e h ∙ ap f (omega arith)
+  -- none returned within n steps, nor at the next one
+  pub none_more : (n : ℕ) → ((k : ℕ) → 0 < k → k ≤ n → f k ≢ z) → f (n + 1) ≢ z → (k : ℕ) → 0 < k → k ≤ n + 1 → f k ≢ z
+  none_more n h last k o l = ⊎_elim (λ m. h k o (omega arith)) (λ m. subst (λ a. f a ≢ z) (sym m) last) (below k (n + 1) (omega arith))
 
-  -- none returned within k steps, nor at the next one
-  pub none_more : (i k : ℕ) → ((j : ℕ) → 0 < j → j < k + 1 → f (i + j) ≢ f i) → f (i + (k + 1)) ≢ f i → (j : ℕ) → 0 < j → j < k + 1 + 1 → f (i + j) ≢ f i
-  none_more i k h n j o l = ⊎_elim (λ m. h j o m) (λ m. subst (λ a. f (i + a) ≢ f i) (sym m) n) (below j (k + 1) (omega arith))
+  -- k steps from the n-th element
+  pub from_there : (n k : ℕ) (a : Elem) → a ≡ f n → after next k a ≡ f (n + k)
+  from_there n zero a e = e ∙ ap f (sym (add-zero n))
+  from_there n (suc k) a e = ap next (from_there n k a e) ∙ ap f (sym (add-suc n k))
+
+  -- what is told of an element of the trail is told of the trail
+  pub falls_from : (s : System) (n : ℕ) (mark : Elem) → mark ≡ f n → (k : ℕ) × Before s (after next k mark) z → Falls next s z
+  falls_from s n mark e h = (n + h.0, subst (λ u. Before s u z) (from_there n h.0 mark e) h.1)
+
+  pub cycle_from : (s : System) (n period : ℕ) (mark : Elem) → mark ≡ f n → ¬ (Before s mark z) → ReturnsAfter next mark period → CycleAt next s z n period
+  cycle_from s n period mark e late r = record {
+    some = r.some;
+    back = sym (from_there n period mark e) ∙ r.back ∙ e;
+    least = λ k o l q. r.least k o l (from_there n k mark e ∙ q ∙ sym e);
+    late = subst (λ u. ¬ (Before s u z)) e late;
+  }
 
   pub steady : (i j : ℕ) → f i ≡ f j → f (suc i) ≡ f (suc j)
   steady i j e = ap next e
@@ -43,11 +58,19 @@ module _ (next : Elem → Elem) (z : Elem) where
   distinct i h a b l m e = h (b - a) (omega arith) (omega arith) (ap f (omega arith) ∙ moved b a (i - a) (sym e) ∙ ap f (omega arith))
 
   -- so they are no more than the elements of the box
-  pub few : (s : System) → Lawful s → (M : ℕ) → M ≤ 1600000 → ((a : Elem) → size s a ≤ M → size s (next a) ≤ M) → size s z ≤ M →
+  few : (s : System) → Lawful s → (M : ℕ) → M ≤ 1600000 → ((a : Elem) → size s a ≤ M → size s (next a) ≤ M) → size s z ≤ M →
       (i : ℕ) → ((k : ℕ) → 0 < k → k < i + 1 → f (i + k) ≢ f i) → i + 1 ≤ 2921 * 2921
   few s g M small closed h i none =
       let in_f : (k : ℕ) → In side (f k) = λ k. boxed s g M small (f k) (small_at s M closed h k) in
       pigeonhole (2921 * 2921) (i + 1) (λ k. code side (f k)) (λ k _. code_high side (f k) (in_f k)) (λ a b l m e. distinct i none a b l m (code_one side (f a) (f b) (in_f a) (in_f b) e))
+
+  -- and a lap of length i + 1 from the i-th element that does not return leads to the next mark
+  pub next_mark : (s : System) → Lawful s → (M : ℕ) → M ≤ 1600000 → ((a : Elem) → size s a ≤ M → size s (next a) ≤ M) → size s z ≤ M →
+      (power : ℕ) (mark end : Elem) → 0 < power → mark ≡ f (power - 1) → Passes next s z mark power end → (end ≡ f (power * 2 - 1)) × (power ≤ 2921 * 2921)
+  next_mark s g M small closed h power mark end o e p = (
+    p.there ∙ from_there (power - 1) power mark e ∙ ap f (omega arith),
+    let b = few s g M small closed h (power - 1) (λ k o l q. p.none k o (omega arith) (from_there (power - 1) k mark e ∙ q ∙ sym e)) in omega arith,
+  )
 
   pub lead_period : (s : System) (from period l : ℕ) → CycleAt next s z from period → LeadIs next z from period l → LeadPeriod f l period
   lead_period s from period l b e = record {

@@ -1,98 +1,121 @@
 // Cycles of trails, found in constant memory.
 
-ghost use Rattle.std.specs.Prelude.{◌≡◌, ◌≤◌, MatchOption};
+ghost use Rattle.std.specs.Prelude.{◌≡◌, ◌≤◌, Decides, MatchOption};
 ghost use Rattle.ring.specs.System.{size};
+ghost use Rattle.ring.specs.Verdict.{Before};
 ghost use Rattle.numbers.specs.Meaning.{short};
-ghost use Rattle.rounds.specs.Rounds.{after, Falls, CycleAt, LeadIs, Runs};
+ghost use Rattle.rounds.specs.Rounds.{after, Falls, Lapped, CycleAt, LeadIs, Runs};
 
 use crate::dynamics::Dynamics;
-use crate::order::{before, same};
+use crate::trail::Trail;
 use numbers::Element;
 
 // The element after `from` steps returns after `period` more.
-#[derive(Clone, Copy)]
+#[derive(Clone, Copy, Debug, PartialEq, Eq)]
 pub struct Cycle {
     pub from: u32,
     pub period: u32,
 }
 
-// How a trail goes: it falls to an element before its first one, or it returns with this lead and period.
-#[derive(Clone, Copy)]
-pub enum Course {
-    Falls,
-    Cycles { lead: u32, period: u32 },
+// The trail returns after `lead` steps, and no sooner, with this period.
+#[derive(Clone, Copy, Debug, PartialEq, Eq)]
+pub struct Orbit {
+    pub lead: u32,
+    pub period: u32,
 }
 
-// Follows the trail of z until it comes to an element before z, or returns, by Brent's method: the mark stands at index power − 1.
-pub fn find_cycle<D: Dynamics>(d: &D, z: Element<i32>) -> Option<Cycle>
-    requires { size (D.ring d.now) (short z) ≤ D.cap d.now }
-    ensures { MatchOption result (Falls (D.next d.now) (D.ring d.now) (short z)) (λ c. CycleAt (D.next d.now) (D.ring d.now) (short z) c.from c.period) }
-{
-    let norm = d.norm(z);
-    let mut mark = z;
-    let mut hare = z;
-    let mut power: u32 = 1;
-    let mut gone: u32 = 0;
-    'follow: loop {
-        hare = d.step(hare);
-        gone = gone + 1;
-        if same(hare, mark) {
-            return Some(Cycle {
-                from: power - 1,
-                period: gone,
-            });
+// A lap from a mark: it comes back to the mark, or ends elsewhere.
+#[derive(Clone, Copy, Debug, PartialEq, Eq)]
+pub enum Lap {
+    Closed { period: u32 },
+    Open { end: Element<i32> },
+}
+
+impl<'d, D: Dynamics> Trail<'d, D> {
+    // Whether z comes before the first element, so that the trail falls where it comes to z.
+    pub fn falls_to(&self, z: Element<i32>) -> bool
+        requires { size (D.ring self.now.map.now) (short z) ≤ D.cap self.now.map.now }
+        ensures { Decides result (Before (D.ring self.now.map.now) (short z) (short self.now.first.element)) }
+    {
+        self.map.rank(z).precedes(self.first)
+    }
+
+    // Goes on from the mark until it comes back to it, or for `length` steps, unless an element before the first one is met.
+    fn lap(&self, mark: Element<i32>, length: u32) -> Option<Lap>
+        requires { size (D.ring self.now.map.now) (short mark) ≤ D.cap self.now.map.now }
+        ensures { Lapped (D.next self.now.map.now) (D.ring self.now.map.now) (short self.now.first.element) (short mark) length result }
+    {
+        let mut hare = mark;
+        for gone in 0..length {
+            hare = self.map.step(hare);
+            if hare == mark {
+                return Some(Lap::Closed { period: gone + 1 });
+            }
+            if self.falls_to(hare) {
+                return None;
+            }
         }
-        if before(d, hare, norm, z) {
-            return None;
-        }
-        if gone == power {
-            mark = hare;
-            power = 2 * power;
-            gone = 0;
+        Some(Lap::Open { end: hare })
+    }
+
+    // Follows the trail until it comes to an element before its first one, or returns, by Brent's method: each lap is twice as long as the one before, and the mark stands at index power − 1.
+    pub fn find_cycle(&self) -> Option<Cycle>
+        ensures { MatchOption result (Falls (D.next self.now.map.now) (D.ring self.now.map.now) (short self.now.first.element)) (λ c. CycleAt (D.next self.now.map.now) (D.ring self.now.map.now) (short self.now.first.element) c.from c.period) }
+    {
+        let mut mark = self.first.element;
+        let mut power: u32 = 1;
+        loop {
+            match self.lap(mark, power)? {
+                Lap::Closed { period } => {
+                    return Some(Cycle {
+                        from: power - 1,
+                        period,
+                    });
+                }
+                Lap::Open { end } => {
+                    mark = end;
+                    power *= 2;
+                }
+            }
         }
     }
-}
 
-// z after `count` steps.
-pub fn advance<D: Dynamics>(d: &D, z: Element<i32>, count: u32) -> Element<i32>
-    requires { size (D.ring d.now) (short z) ≤ D.cap d.now }
-    ensures { short result ≡ after (D.next d.now) count (short z) }
-{
-    let mut ahead = z;
-    for k in 0..count {
-        ahead = d.step(ahead);
-    }
-    ahead
-}
-
-// The least number of steps to an element that returns, found by two elements a period apart.
-pub fn lead_of<D: Dynamics>(d: &D, z: Element<i32>, cycle: Cycle) -> u32
-    requires inside { size (D.ring d.now) (short z) ≤ D.cap d.now }
-    requires back { CycleAt (D.next d.now) (D.ring d.now) (short z) cycle.from cycle.period }
-    ensures { LeadIs (D.next d.now) (short z) cycle.from cycle.period result }
-{
-    let mut behind = z;
-    let mut ahead = advance(d, z, cycle.period);
-    for lead in 0..cycle.from {
-        if same(behind, ahead) {
-            return lead;
+    // The element after `count` steps.
+    pub fn advance(&self, count: u32) -> Element<i32>
+        ensures { short result ≡ after (D.next self.now.map.now) count (short self.now.first.element) }
+    {
+        let mut ahead = self.first.element;
+        for _ in 0..count {
+            ahead = self.map.step(ahead);
         }
-        behind = d.step(behind);
-        ahead = d.step(ahead);
+        ahead
     }
-    cycle.from
-}
 
-// How the trail of z goes.
-pub fn walk<D: Dynamics>(d: &D, z: Element<i32>) -> Course
-    requires { size (D.ring d.now) (short z) ≤ D.cap d.now }
-    ensures { Runs (D.next d.now) (D.ring d.now) (short z) result }
-{
-    match find_cycle(d, z) {
-        None => Course::Falls,
-        Some(cycle) => Course::Cycles {
-            lead: lead_of(d, z, cycle),
+    // The least number of steps to an element that returns, found by two elements a period apart.
+    pub fn lead_of(&self, cycle: Cycle) -> u32
+        requires { CycleAt (D.next self.now.map.now) (D.ring self.now.map.now) (short self.now.first.element) cycle.from cycle.period }
+        ensures { LeadIs (D.next self.now.map.now) (short self.now.first.element) cycle.from cycle.period result }
+    {
+        let mut behind = self.first.element;
+        let mut ahead = self.advance(cycle.period);
+        for lead in 0..cycle.from {
+            if behind == ahead {
+                return lead;
+            }
+            behind = self.map.step(behind);
+            ahead = self.map.step(ahead);
+        }
+        cycle.from
+    }
+
+    // Where the trail returns, or none if it falls to an element before its first one.
+    pub fn walk(&self) -> Option<Orbit>
+        ensures { Runs (D.next self.now.map.now) (D.ring self.now.map.now) (short self.now.first.element) result }
+    {
+        let cycle = self.find_cycle()?;
+        Some(Orbit {
+            lead: self.lead_of(cycle),
             period: cycle.period,
-        },
+        })
     }
 }

@@ -5,6 +5,7 @@ ghost use Rattle.ring.specs.Elem.{Elem, Below, 𝟘};
 ghost use Rattle.ring.specs.System.{System, Lawful, size};
 ghost use Rattle.numbers.specs.Meaning.{short};
 
+use crate::order::Ranked;
 use numbers::Element;
 
 // A map on all elements that does not leave those of norm at most `cap`, and keeps 0 where it is. It knows no digits.
@@ -32,4 +33,16 @@ pub trait Dynamics {
     fn norm(&self, z: Element<i32>) -> u32
         requires { Below 2048 (short z) }
         ensures { result ≡ size (ring self.now) (short z) };
+
+    // The element with its norm.
+    fn rank(&self, z: Element<i32>) -> Ranked
+        requires { size (ring self.now) (short z) ≤ cap self.now }
+        ensures norm { result.norm ≡ size (ring self.now) (short z) }
+        ensures element { result.element ≡ z }
+    {
+        Ranked {
+            norm: self.norm(z),
+            element: z,
+        }
+    }
 }

@@ -5,7 +5,9 @@
 mod cycles;
 mod dynamics;
 mod order;
+mod trail;
 
-pub use cycles::{Course, Cycle, advance, find_cycle, lead_of, walk};
+pub use cycles::{Cycle, Lap, Orbit};
 pub use dynamics::Dynamics;
-pub use order::{before, earlier, same};
+pub use order::Ranked;
+pub use trail::Trail;

@@ -1,44 +1,42 @@
-use Rattle.std.proofs.Common.{refl, arith, w32}
+use Rattle.std.proofs.Common.{◌≡◌, ◌+◌, ◌≤◌, sym, refl, subst, inl, inr, rules, arith, w32}
 use Rattle.std.proofs.lemmas.Int.{ints, to_z-of_z}
-use Rattle.finding.proofs.Nested.{none_zero, left_none, under_none, under_more, left_more, below_more, found}
+use Rattle.digits.specs.declared.verdict.Verdict.TheVariants.{Cleared}
+use Rattle.finding.specs.Finding.{Inner, Judged}
+use Rattle.finding.proofs.Nested.{none_zero, left_none, under_none, under_more, column_done, rows_done, found}
 use Rattle.finding.proofs.first.search.Goals as goal
+use Rattle.finding.proofs.first.search.Goals.{else-loop-y-test, then-loop-y-test+in_default+else-y-c, else-loop-x-test, then-loop-x-test+else-x-c}
 
 pub search-init : goal.search-init
 search-init g c =
-    let d = c.args.d.now in
+    let d = c.args.map.now in
     let z = none_zero (g.D.Dynamics.next d) (g.D.Dynamics.ring d) (g.D.Dynamics.lawful d) in
     (refl, omega arith, z, z)
 
 pub loop-x-init : goal.loop-x-init
 loop-x-init g c =
-    let d = c.args.d.now in
+    let d = c.args.map.now in
     let e = c.reach-c.ensures in (
       c.search.invariant.0,
-      omega (arith, ints),
-      left_none (g.D.Dynamics.next d) (g.D.Dynamics.ring d) (g.D.Dynamics.lawful d) c.search.norm c.reach-c.result e.low e.bounds _ (omega (arith, ints)),
+      grind (arith, ints),
+      left_none (g.D.Dynamics.next d) (g.D.Dynamics.ring d) (g.D.Dynamics.lawful d) c.search.norm c.reach-c.result e.low e.bounds _ (grind (arith, ints)),
     )
 
 pub loop-y-init : goal.loop-y-init
 loop-y-init g c =
-    let d = c.args.d.now in
+    let d = c.args.map.now in
     let e = c.reach-c.ensures in (
       c.loop-x.invariant.0,
-      omega (arith, ints),
-      under_none (g.D.Dynamics.next d) (g.D.Dynamics.ring d) (g.D.Dynamics.lawful d) c.search.norm c.reach-c.result e.low e.bounds _ _ (omega (arith, ints)),
+      grind (arith, ints),
+      under_none (g.D.Dynamics.next d) (g.D.Dynamics.ring d) (g.D.Dynamics.lawful d) c.search.norm c.reach-c.result e.low e.bounds _ _ (grind (arith, ints)),
     )
-
-pub tried-requires : goal.tried-requires
-tried-requires g c =
-    let e = c.reach-c.ensures in
-    let i = c.loop-x.invariant.1 in
-    let j = c.loop-y.invariant.1 in
-    (grind (arith, ints), (grind (arith, ints), omega arith))
 
 pub loop-y-preserved : goal.loop-y-preserved
 loop-y-preserved g c =
-    let d = c.args.d.now in
+    let d = c.args.map.now in
     let e = c.reach-c.ensures in
-    let j = c.loop-y.invariant.1 in
+    let low = e.low in
+    let high = e.high in
+    let i = c.loop-y.invariant.1 in
     let t = c.loop-y-test.true in (
       c.loop-y.invariant.0,
       grind (arith, ints),
@@ -47,30 +45,54 @@ loop-y-preserved g c =
 
 pub loop-x-preserved : goal.loop-x-preserved
 loop-x-preserved g c =
-    let d = c.args.d.now in
+    let d = c.args.map.now in
     let e = c.reach-c.ensures in
-    let k = c.loop-x.invariant.1 in
-    let t = c.loop-x-test.true in
-    let u = c.loop-y-test.false in (
+    let low = e.low in
+    let high = e.high in
+    let i = c.loop-x.invariant.1 in
+    let t = c.loop-x-test.true in (
       c.loop-y.invariant.0,
       grind (arith, ints),
-      left_more (g.D.Dynamics.next d) (g.D.Dynamics.ring d) (g.D.Dynamics.lawful d) c.search.norm c.reach-c.result e.low e.bounds _ _ _ _ c.loop-x.invariant.1 c.loop-y.invariant.1 (grind (arith, ints)) (to_z-of_z w32 _ (grind (arith, ints))) c.loop-x.invariant.2 c.loop-y.invariant.2,
+      column_done (g.D.Dynamics.next d) (g.D.Dynamics.ring d) (g.D.Dynamics.lawful d) c.search.norm c.reach-c.result e.low e.bounds c.search.invariant.2 _ _ _ _ c.loop-x.invariant.1 c.loop-y.invariant.1 (to_z-of_z w32 _ (grind (arith, ints))) c.loop-x.invariant.2 c.loop-y.invariant.2
+          (elim c.loop-y-test.branch [ else-loop-y-test w ↦ inl (search rules) | then-loop-y-test+in_default+else-y-c w ↦ inr (search rules, w.in_default.ensures) ]),
     )
 
+-- where the x loop ends, every element of the norm comes to 0
 pub search-preserved : goal.search-preserved
 search-preserved g c =
-    let d = c.args.d.now in
-    let e = c.reach-c.ensures in
-    let u = c.loop-x-test.false in (
-      c.loop-x.invariant.0,
+    let d = c.args.map.now in
+    let next = g.D.Dynamics.next d in
+    let s = g.D.Dynamics.ring d in
+    let law = g.D.Dynamics.lawful d in
+    let e = c.reach-c.ensures in (
+      elim c.loop-x-test.branch [ else-loop-x-test w ↦ search rules | then-loop-x-test+else-x-c w ↦ search rules ],
       c.cleared_to-clear.ensures.down,
-      below_more (g.D.Dynamics.next d) (g.D.Dynamics.ring d) (g.D.Dynamics.lawful d) c.search.norm c.reach-c.result e.low e.bounds _ _ c.loop-x.invariant.1 (grind (arith, ints)) c.search.invariant.2 c.loop-x.invariant.2,
+      rows_done next s law c.search.norm c.reach-c.result e.low e.bounds c.search.invariant.2 _ _ c.loop-x.invariant.1 c.loop-x.invariant.2
+          (elim c.loop-x-test.branch [ else-loop-x-test w ↦ inl (search rules)
+           | then-loop-x-test+else-x-c w ↦ inr (search rules, column_done next s law c.search.norm c.reach-c.result e.low e.bounds c.search.invariant.2 _ _ _ _ c.loop-x.invariant.1 w.loop-y.invariant.1 refl c.loop-x.invariant.2 w.loop-y.invariant.2
+              (elim w.loop-y-test.branch [ else-loop-y-test w' ↦ inl (search rules) | then-loop-y-test+in_default+else-y-c w' ↦ inr (search rules, w'.in_default.ensures) ])) ]),
       c.cleared_to-clear.ensures.ends,
     )
 
-pub returns-in-Cycles : goal.returns-in-Cycles
-returns-in-Cycles g c =
-    let d = c.args.d.now in
-    let r = c.in-Cycles.ensures in
+pub returns-in-Some : goal.returns-in-Some
+returns-in-Some g c =
+    let d = c.args.map.now in
+    let r = c.in-Some.ensures in
     found (g.D.Dynamics.next d) (g.D.Dynamics.ring d) (g.D.Dynamics.lawful d) c.search.norm (g.D.Dynamics.rests d) (omega arith)
-    _ _ _ c.loop-x.invariant.1 c.loop-y.invariant.1 c.in-Cycles.lead c.in-Cycles.period c.search.invariant.2 c.loop-x.invariant.2 c.loop-y.invariant.2 r.0 r.1
+    _ _ _ c.loop-x.invariant.1 c.loop-y.invariant.1 c.in-Some.field-0.lead c.in-Some.field-0.period c.search.invariant.2 c.loop-x.invariant.2 c.loop-y.invariant.2 r.0 r.1
+
+-- and so at the last norm
+pub returns-else-norm-clear : goal.returns-else-norm-clear
+returns-else-norm-clear g c =
+    let d = c.args.map.now in
+    let next = g.D.Dynamics.next d in
+    let s = g.D.Dynamics.ring d in
+    let law = g.D.Dynamics.lawful d in
+    let e = c.reach-c.ensures in
+    let none : c.loop-x-test.found ≡ Cleared = elim c.loop-x-test.branch [ else-loop-x-test w ↦ search rules | then-loop-x-test+else-x-c w ↦ search rules ] in
+    let ends : Inner next s (c.search.norm + 1) = rows_done next s law c.search.norm c.reach-c.result e.low e.bounds c.search.invariant.2 _ _ c.loop-x.invariant.1 c.loop-x.invariant.2
+          (elim c.loop-x-test.branch [ else-loop-x-test w ↦ inl (search rules)
+           | then-loop-x-test+else-x-c w ↦ inr (search rules, column_done next s law c.search.norm c.reach-c.result e.low e.bounds c.search.invariant.2 _ _ _ _ c.loop-x.invariant.1 w.loop-y.invariant.1 refl c.loop-x.invariant.2 w.loop-y.invariant.2
+              (elim w.loop-y-test.branch [ else-loop-y-test w' ↦ inl (search rules) | then-loop-y-test+in_default+else-y-c w' ↦ inr (search rules, w'.in_default.ensures) ])) ]) in
+    let last : c.args.bound ≤ c.search.norm = search rules in
+    subst (Judged next s c.args.bound) (sym none) (λ z h. ends z (omega (arith, h, last)))

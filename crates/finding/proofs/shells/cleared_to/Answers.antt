@@ -1,17 +1,17 @@
-use Rattle.std.proofs.Common.{◌≤◌, arith}
+use Rattle.std.proofs.Common.{◌≤◌, rules, arith}
+use Rattle.finding.specs.Finding.{Shell}
 use Rattle.finding.proofs.Sink.{sunk}
-use Rattle.finding.proofs.shells.cleared_to.Given as given
 use Rattle.finding.proofs.shells.cleared_to.Goals as goal
-use Rattle.finding.proofs.shells.cleared_to.Goals.{then-norm-bound, else-norm-bound}
-
-room : (g : given.Over) (c : goal.After-sift g) → c.if-norm-bound.top ≤ c.args.bound
-room g c = elim c.if-norm-bound.branch [ then-norm-bound w ↦ omega (arith, w.top-is) | else-norm-bound w ↦ omega (arith, w.top-is) ]
 
 pub returns : goal.returns
 returns g c =
-    let d = c.args.d.now in
+    let d = c.args.map.now in
     let r = c.sift.ensures in
+    let n = c.new.ensures in
+    let room : c.new.result.top ≤ c.args.bound = search rules in
+    let f : Shell (g.D.Dynamics.next d) (g.D.Dynamics.ring d) c.args.norm c.sift.result = search rules in
+    let e = sunk (g.D.Dynamics.ring d) (g.D.Dynamics.lawful d) (g.D.Dynamics.cap d) (g.D.Dynamics.small d) (g.D.Dynamics.next d) c.args.norm c.sift.result (omega (arith, room, r.down, c.requires.small.0)) c.requires.ends.0 f in
     record {
-      down = omega (arith, room g c);
-      ends = sunk (g.D.Dynamics.ring d) (g.D.Dynamics.lawful d) (g.D.Dynamics.cap d) (g.D.Dynamics.small d) (g.D.Dynamics.next d) c.args.norm c.sift.result (omega (arith, room g c)) c.requires.ends.0 r.falls;
+      down = omega (arith, room, r.down);
+      ends = e;
     }
