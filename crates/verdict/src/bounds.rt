@@ -8,8 +8,8 @@ ghost use Rattle.digits.specs.Digits.{elems};
 ghost use Rattle.verdict.specs.Bounds.{Most, Reaches};
 
 use digits::digit::Digit;
+use digits::numeration::Numeration;
 use digits::residues::modulus;
-use digits::width::Width;
 use numbers::{Element, NumberSystem, Ruled};
 
 // The norm of a small element.
@@ -42,9 +42,12 @@ pub fn norm_limit(most: u32, power: u32) -> u32
 }
 
 // The norm up to which elements are looked at: if all of them have expansions, every element has one.
-pub fn bound<S: NumberSystem>(system: &S, width: Width, digits: &[Digit]) -> u32
+pub fn bound<S: NumberSystem>(numeration: Numeration<S>) -> u32
     ensures small { result ≤ 1560600 }
-    ensures reaches { Reaches S.ring width.places (elems digits.now) result }
+    ensures reaches { Reaches S.ring numeration.entry.width.places (elems numeration.entry.digits.now) result }
 {
-    norm_limit(largest(system, digits), modulus(system, width))
+    norm_limit(
+        largest(numeration.system, numeration.digits),
+        modulus::<S>(numeration.width),
+    )
 }

@@ -11,28 +11,20 @@ ghost use Rattle.sets.specs.Held.{held, width_of};
 
 use crate::bounds::bound;
 use crate::recoding::Recoding;
-use digits::digit::Digit;
+use digits::numeration::Numeration;
 use digits::verdict::Verdict;
-use digits::width::Width;
 use finding::search;
 use numbers::{Asks, NumberSystem, Ruled};
 use refusals::Refusal;
 use sets::table::DigitSet;
 
 // Whether every element has an expansion, and else the first that has none, with the lead and the period of its trail.
-pub fn check<S: NumberSystem>(system: &S, width: Width, digits: &[Digit]) -> Verdict
-    requires full { Full S.ring width.places (Has (elems digits.now)) }
-    ensures { Holds S.ring width.places (Has (elems digits.now)) (verdict_of result) }
+pub fn check<S: NumberSystem>(numeration: Numeration<S>) -> Verdict
+    requires full { Full S.ring numeration.width.places (Has (elems numeration.digits.now)) }
+    ensures { Holds S.ring numeration.entry.width.places (Has (elems numeration.entry.digits.now)) (verdict_of result) }
 {
-    let last = bound(system, width, digits);
-    search(
-        &Recoding {
-            system,
-            width,
-            digits,
-        },
-        last,
-    )
+    let last = bound(numeration);
+    search(&Recoding { numeration }, last)
 }
 
 // The verdict on a set, which finds out itself whether the set is full: else it is refused as open.
@@ -42,5 +34,5 @@ pub fn judge<S: NumberSystem>(system: &S, set: &DigitSet) -> Result<Verdict, Ref
     if !set.is_full(system) {
         return Err(Refusal::Open);
     }
-    Ok(check(system, set.width(), set.as_slice()))
+    Ok(check(set.numeration(system)))
 }

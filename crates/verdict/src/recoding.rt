@@ -1,12 +1,9 @@
-use digits::digit::Digit;
-use digits::width::Width;
+use digits::numeration::Numeration;
 
 pub mod calls;
 
-// A system, a width and a list of digits: the map from an element to the remainder of its step.
+// The map from an element to the remainder of its step.
 #[derive(Drop)]
 pub struct Recoding<'s, 'd, S> {
-    pub system: &'s S,
-    pub width: Width,
-    pub digits: &'d [Digit],
+    pub numeration: Numeration<'s, 'd, S>,
 }

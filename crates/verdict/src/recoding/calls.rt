@@ -4,14 +4,13 @@ ghost use Rattle.verdict.specs.Next.{next, closed, rests};
 
 use crate::bounds::norm_in;
 use crate::recoding::Recoding;
-use digits::steps::step;
 use numbers::{Coordinate, Element, NumberSystem, Ruled};
 use rounds::Dynamics;
 
 impl<'s, 'd, S: NumberSystem> Dynamics for Recoding<'s, 'd, S> {
     ghost ring = { λ _. S.ring };
 
-    ghost next = { λ r. next S.ring S.lawful r.width.places r.width.some (elems r.digits.now) };
+    ghost next = { λ r. next S.ring S.lawful r.numeration.width.places r.numeration.width.some (elems r.numeration.digits.now) };
 
     ghost cap = { λ _. 1560600 };
 
@@ -19,18 +18,18 @@ impl<'s, 'd, S: NumberSystem> Dynamics for Recoding<'s, 'd, S> {
 
     ghost small = { λ _. lit≤ tt };
 
-    ghost closed = { λ r. closed S.ring S.lawful r.width.places r.width.some r.digits.now };
+    ghost closed = { λ r. closed S.ring S.lawful r.numeration.width.places r.numeration.width.some r.numeration.digits.now };
 
-    ghost rests = { λ r. rests S.ring S.lawful r.width.places r.width.some (elems r.digits.now) };
+    ghost rests = { λ r. rests S.ring S.lawful r.numeration.width.places r.numeration.width.some (elems r.numeration.digits.now) };
 
     fn step(&self, z: Element<i32>) -> Element<i32> {
-        match step(self.system, self.width, self.digits, z) {
-            Some(taken) => taken.1,
-            None => Element { x: 0, y: 0 },
+        match self.numeration.step(z) {
+            Some((_digit, remainder)) => remainder,
+            None => Element::zero(),
         }
     }
 
     fn norm(&self, z: Element<i32>) -> u32 {
-        norm_in(self.system, z)
+        norm_in(self.numeration.system, z)
     }
 }

@@ -11,7 +11,7 @@ pub loop-d-preserved : goal.loop-d-preserved
 loop-d-preserved g c =
     let s = g.S.Ruled.ring in
     let e = short c.element.result in
-    let at = elem_at c.args.digits.now c.d-item.result c.loop-d.d-index c.loop-d-test.true c.d-item.is ∙ sym c.element.ensures.is in
+    let at = elem_at c.args.digits.now c.d-item.result c.loop-d.d-index c.loop-d-test.true (sym c.d-item.is) ∙ sym c.element.ensures.is in
     let small : size s e ≤ 260100 = digit_size s g.S.Ruled.lawful e c.element.ensures.ranged in
     let n = c.norm_in.ensures in
     let m = c.max-most.ensures in
