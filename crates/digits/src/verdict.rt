@@ -1,4 +1,8 @@
+ghost use Rattle.std.specs.Prelude.{Some};
+ghost use Rattle.digits.specs.Verdicts.{verdict_text};
+
 use numbers::Element;
+use std::fmt;
 
 // A verdict on a full set of digits.
 #[derive(Clone, Copy, Debug, PartialEq, Eq)]
@@ -11,4 +15,20 @@ pub enum Verdict {
         lead: u32,
         period: u32,
     },
+}
+
+// As `cleared`, or as `barred x,y lead period`.
+impl fmt::Display for Verdict {
+    ghost output = { λ verdict. Some (verdict_text verdict) };
+
+    fn fmt<W: fmt::Write>(&self, f: &mut fmt::Formatter<W>) -> fmt::Result {
+        match *self {
+            Verdict::Cleared => f.write_str("cleared"),
+            Verdict::Barred {
+                first,
+                lead,
+                period,
+            } => write!(f, "barred {} {} {}", first, lead, period),
+        }
+    }
 }

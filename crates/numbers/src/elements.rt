@@ -1,11 +1,13 @@
 // Elements x + yθ with coordinates of one kind.
 
-ghost use Rattle.std.specs.Prelude.{◌≡◌, ◌*◌, pos, ◌≤ℤ◌, Decides, MatchOption};
+ghost use Rattle.std.specs.Prelude.{◌≡◌, ◌*◌, pos, ◌≤ℤ◌, Decides, MatchOption, Some, codes};
+ghost use Rattle.std.specs.Fmt.{◌++?◌};
 ghost use Rattle.ring.specs.Elem.{𝟘, Below, add, sub};
 ghost use Rattle.numbers.specs.Meaning.{meaning, short};
 ghost use Rattle.numbers.specs.Question.{rests};
 
 use crate::kinds::Coordinate;
+use std::fmt;
 
 // An element, by its two coordinates. Elements are in order by x, then by y.
 #[derive(Clone, Copy, Debug, PartialEq, Eq, PartialOrd, Ord)]
@@ -96,5 +98,14 @@ impl<C: Coordinate> Element<C> {
             x: self.x.rest(divisor),
             y: self.y.rest(divisor),
         }
+    }
+}
+
+// Its coordinates, as `x,y`.
+impl<C: fmt::Display> fmt::Display for Element<C> {
+    ghost output = { λ z. C.output z.x ++? Some (codes ",") ++? C.output z.y };
+
+    fn fmt<W: fmt::Write>(&self, f: &mut fmt::Formatter<W>) -> fmt::Result {
+        write!(f, "{},{}", self.x, self.y)
     }
 }
