@@ -1,3 +1,4 @@
 pub mod Meaning
 pub mod Rings
 pub mod Theorems
+pub mod Told

@@ -42,3 +42,9 @@ pub record LawfulMeaning {C : Type 0} (m : Meaning C) : Type 0 where
   pub cancels : (p : C) → T (m.is_point p) → m.sum p (m.opposite p) ≡ m.origin
   pub θ_sum : (p q : C) → T (m.is_point p) → T (m.is_point q) → m.θ (m.sum p q) ≡ m.sum (m.θ p) (m.θ q)
   pub square : (p : C) → T (m.is_point p) → m.sum (m.θ (m.θ p)) (times m m.n p) ≡ times m m.t (m.θ p)
+
+-- engines of the type E, with points in the carrier C: what each means, its total and its current point
+pub record Machine (E C : Type 0) : Type 0 where
+  pub meaning : E → Meaning C
+  pub total_of : E → C
+  pub current_of : E → C

@@ -1,29 +1,24 @@
 // The making of a word engine, and its calls.
-ghost use Rattle.std.specs.Prelude.{◌≡◌, bit_xor};
+ghost use Rattle.std.specs.Prelude.{◌≡◌};
 ghost use Rattle.engine.specs.Meaning.{act, elem};
 ghost use Rattle.word.specs.Word.{words, summed, if_odd};
-ghost use Rattle.word.specs.Made.{point_of, meaning_of, Made};
+ghost use Rattle.word.specs.Made.{point_of, meaning_of, word_machine, Made};
 ghost use Rattle.word.specs.Points;
 
 use super::{WordEngine, Words};
-use engine::{Point, PointEngine, in_ring};
+use engine::{Point, PointEngine, Ring};
 use refusals::Refusal;
 
-// The exclusive or of two words.
-fn xor(a: u32, b: u32) -> u32
-    ensures { result ≡ bit_xor a b }
-{
-    a ^ b
-}
-
 // All ones for an odd number, else all zeros.
+#[tactic(auto, unfolding(crate::specs::Word::odd))]
 fn mask(z: i32) -> u32
     ensures { result ≡ if_odd z 0xffff_ffff }
 {
-    if z % 2 != 0 { 0xffff_ffff } else { 0 }
+    if z % 2 == 0 { 0 } else { u32::MAX }
 }
 
 // The word for an odd number, else 0.
+#[tactic(auto, using(crate::proofs::Masks::masked))]
 fn keep(z: i32, w: u32) -> u32
     ensures { result ≡ if_odd z w }
 {
@@ -31,13 +26,20 @@ fn keep(z: i32, w: u32) -> u32
 }
 
 impl Words {
+    // The origin.
+    fn zero() -> Words
+        ensures { point_of result ≡ words 0 0 }
+    {
+        Words { u: 0, v: 0 }
+    }
+
     // The sum of two points.
     fn sum(self, other: Words) -> Words
         ensures { point_of result ≡ summed (point_of self) (point_of other) }
     {
         Words {
-            u: xor(self.u, other.u),
-            v: xor(self.v, other.v),
+            u: self.u ^ other.u,
+            v: self.v ^ other.v,
         }
     }
 
@@ -50,14 +52,16 @@ impl Words {
             v: keep(k, self.v),
         }
     }
+}
 
-    // The point, as it is told.
-    fn shown(self) -> Point
-        ensures { result ≡ point_of self }
-    {
+// The point, as it is told.
+impl From<Words> for Point {
+    ghost from_gives = { λ w p. p ≡ point_of w };
+
+    fn from(w: Words) -> Point {
         Point {
-            u: self.u as i64,
-            v: self.v as i64,
+            u: i64::from(w.u),
+            v: i64::from(w.v),
         }
     }
 }
@@ -67,15 +71,12 @@ impl WordEngine {
     pub fn new(t: i64, n: i64, u: u32, v: u32) -> Result<WordEngine, Refusal>
         ensures { Made t n u v result }
     {
-        if !in_ring(t, n) {
-            return Err(Refusal::Root);
-        }
+        let ring = Ring::new(t, n).ok_or(Refusal::Root)?;
         let start = Words { u, v };
         Ok(WordEngine {
-            t: t as i32,
-            n: n as i32,
+            ring,
             start,
-            total: Words { u: 0, v: 0 },
+            total: Words::zero(),
             current: start,
         })
     }
@@ -85,8 +86,8 @@ impl WordEngine {
         ensures { point_of result ≡ (meaning_of self.now).θ (point_of w) }
     {
         Words {
-            u: keep(self.n, w.v),
-            v: xor(w.u, keep(self.t, w.v)),
+            u: keep(self.ring.n, w.v),
+            v: w.u ^ keep(self.ring.t, w.v),
         }
     }
 
@@ -98,37 +99,34 @@ impl WordEngine {
     }
 }
 
+// These calls are those of the residue engine but for the type of a point. A form for both would have to name each field and each law of the points once more, and these are a line each.
 impl PointEngine for WordEngine {
-    ghost meaning = { meaning_of };
+    ghost machine = { word_machine };
 
-    ghost total_of = { λ e. point_of e.total };
-
-    ghost current_of = { λ e. point_of e.current };
-
-    ghost lawful = { λ e. Points.lawful e.t e.n e.start.u e.start.v e.start.fits.0 e.start.fits.1 };
+    ghost lawful = { λ e. Points.lawful e.ring.t e.ring.n e.start.u e.start.v e.start.fits.0 e.start.fits.1 };
 
     fn t(&self) -> i32 {
-        self.t
+        self.ring.t
     }
 
     fn n(&self) -> i32 {
-        self.n
+        self.ring.n
     }
 
     fn start(&self) -> Point {
-        self.start.shown()
+        Point::from(self.start)
     }
 
     fn total(&self) -> Point {
-        self.total.shown()
+        Point::from(self.total)
     }
 
     fn current(&self) -> Point {
-        self.current.shown()
+        Point::from(self.current)
     }
 
     fn restart(&mut self) {
-        self.total = Words { u: 0, v: 0 };
+        self.total = Words::zero();
         self.current = self.start;
     }
 

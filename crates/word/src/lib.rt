@@ -6,19 +6,20 @@ ghost use Rattle.std.specs.Prelude.{◌^◌, ◌<◌};
 
 mod calls;
 
+use engine::Ring;
+
 // Two words of 32 bits.
-#[derive(Clone, Copy)]
+#[derive(Clone, Copy, Debug, PartialEq, Eq)]
 struct Words {
     u: u32,
     v: u32,
     ghost fits: { (u < 2 ^ 32) × (v < 2 ^ 32) },
 }
 
-// t and n, the start point, the total and the current point.
-#[derive(Clone, Copy)]
+// The ring, the start point, the total and the current point.
+#[derive(Clone, Copy, Debug, PartialEq, Eq)]
 pub struct WordEngine {
-    t: i32,
-    n: i32,
+    ring: Ring,
     start: Words,
     total: Words,
     current: Words,

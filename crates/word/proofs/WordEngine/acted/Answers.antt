@@ -16,4 +16,4 @@ returns c =
     c.sum.ensures ∙
     ap (λ p. m.sum p (point_of c.times-2.result)) (c.times.ensures ∙ ap (λ z. words (if_odd z w.u) (if_odd z w.v)) (to_z-of_z w32 x c.ranges.x)) ∙
     ap (λ p. m.sum (words (if_odd x w.u) (if_odd x w.v)) p) (c.times-2.ensures ∙ ap (λ z. words (if_odd z r.u) (if_odd z r.v)) (to_z-of_z w32 y c.ranges.y) ∙ ap (λ p. words (if_odd y (nat_abs p.u)) (if_odd y (nat_abs p.v))) c.theta.ensures) ∙
-    sym (act_is e.t e.n e.start.u e.start.v x y (point_of w))
+    sym (act_is e.ring.t e.ring.n e.start.u e.start.v x y (point_of w))
