@@ -5,3 +5,4 @@ pub mod Told
 pub mod History
 pub mod Comes
 pub mod Theorems
+pub mod Shown

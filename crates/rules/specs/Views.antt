@@ -4,6 +4,7 @@ use Rattle.ring.specs.Elem.{Elem, 𝟘}
 use Rattle.ring.specs.System.{System}
 use Rattle.digits.specs.declared.verdict.Verdict.{Verdict}
 use Rattle.engine.specs.Meaning.{Meaning}
+pub use Rattle.engine.specs.Meaning.{Machine}
 use Rattle.rules.specs.declared.calls.Standing.{Standing}
 use Rattle.rules.specs.declared.calls.Standing.TheVariants.{Draft}
 
@@ -16,15 +17,6 @@ pub record Setting : Type 0 where
 
 abbrev pub setting : System → ℕ → ℕ → ℕ → Setting
 setting s widest loading working = record { ring = s; widest = widest; loading = loading; working = working }
-
--- engines of the type E, with points in the carrier C: what each means, its total and its current point
-pub record Machine (E C : Type 0) : Type 0 where
-  pub meaning : E → Meaning C
-  pub total_of : E → C
-  pub current_of : E → C
-
-abbrev pub machine : {E C : Type 0} → (E → Meaning C) → (E → C) → (E → C) → Machine E C
-machine meaning total current = record { meaning = meaning; total_of = total; current_of = current }
 
 -- the t and the n that an engine is made for
 pub record EngineRing : Type 0 where

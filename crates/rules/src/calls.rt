@@ -4,7 +4,7 @@ use numbers::Element;
 use refusals::Refusal;
 
 // How a unit stands.
-#[derive(Clone, Copy)]
+#[derive(Clone, Copy, Debug, PartialEq, Eq)]
 pub enum Standing {
     // The set of digits is not checked since it last changed.
     Draft,
@@ -17,7 +17,7 @@ pub enum Standing {
 }
 
 // A call of a unit, with numbers of any size that a caller may have.
-#[derive(Clone, Copy)]
+#[derive(Clone, Copy, Debug, PartialEq, Eq)]
 pub enum Call {
     Width(u64),
     Put(i64, i64),
@@ -29,7 +29,7 @@ pub enum Call {
 }
 
 // What a call answers.
-#[derive(Clone, Copy)]
+#[derive(Clone, Copy, Debug, PartialEq, Eq)]
 pub enum Answer {
     // The number of classes at the width.
     Classes(u32),
@@ -45,7 +45,7 @@ pub enum Answer {
 }
 
 // A call, its answer, and how the unit stands after it.
-#[derive(Clone, Copy)]
+#[derive(Clone, Copy, Debug, PartialEq, Eq)]
 pub struct Event {
     pub call: Call,
     pub answer: Answer,

@@ -5,3 +5,4 @@
 pub mod agree;
 pub mod calls;
 pub mod keep;
+pub mod shown;

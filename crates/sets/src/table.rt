@@ -1,3 +1,4 @@
+ghost use Rattle.std.specs.Prelude.{◌≤◌, length};
 ghost use Rattle.digits.specs.Digits.{elems};
 ghost use Rattle.sets.specs.Lists.{Different};
 
@@ -15,5 +16,6 @@ pub mod fullness;
 pub struct DigitSet {
     digits: ArrayVec<Digit, 128>,
     width: Width,
+    ghost most: { length digits.items ≤ 128 },
     ghost once: { Different (elems digits.items) },
 }

@@ -1,4 +1,3 @@
-pub mod Base
 pub mod Changes
 pub mod Sounds
 pub mod Answering

@@ -5,7 +5,6 @@ ghost use Rattle.digits.specs.Digits.{elem_of};
 ghost use Rattle.rules.specs.Views.{ring_of};
 ghost use Rattle.rules.specs.Table.{Matches};
 ghost use Rattle.rules.specs.Told.{left, Closes, Moved};
-ghost use Rattle.unit.specs.Seen.{machine};
 
 use digits::digit::Digit;
 use digits::verdict::Verdict;
@@ -15,10 +14,10 @@ use numbers::{Coordinate, Element, Ruled};
 use rules::calls::Standing;
 
 // The width, if the system serves it.
-pub fn served<S: Ruled>(system: &S, places: u64) -> Option<Width>
+pub fn served<S: Ruled>(places: u64) -> Option<Width>
     ensures { MatchOption result ((places ≡ 0) ⊎ (S.WIDEST < places)) (λ w. (w.places ≡ places) × (((places ≡ 0) ⊎ (S.WIDEST < places)) → ⊥)) }
 {
-    if places == 0 || places > system.parameters().widest as u64 {
+    if places == 0 || places > u64::from(S::WIDEST) {
         return None;
     }
     Width::new(places as u32)
@@ -46,19 +45,18 @@ pub fn left_with<C: Coordinate>(remainder: Element<C>) -> Standing
 }
 
 // Whether the engine's t and n are the system's.
-pub fn matches<S: Ruled, E: PointEngine>(system: &S, engine: &E) -> bool
-    ensures { Decides result (Matches S.ring (ring_of (E.meaning engine.now))) }
+pub fn matches<S: Ruled, E: PointEngine>(engine: &E) -> bool
+    ensures { Decides result (Matches S.ring (ring_of (E.machine.meaning engine.now))) }
 {
-    let k = system.parameters();
-    k.t == engine.t() && k.n == engine.n()
+    S::TRACE == engine.t() && S::NORM == engine.n()
 }
 
 // Adds a digit to the engine, and moves it by the base.
-pub fn feed<S: Ruled, E: PointEngine>(system: &S, engine: &mut E, digit: Digit)
-    ensures { Moved (machine E.meaning E.total_of E.current_of) (elem_of digit) S.ring.β engine.old engine.new }
+pub fn feed<S: Ruled, E: PointEngine>(engine: &mut E, digit: Digit)
+    ensures { Moved E.machine (elem_of digit) S.ring.β engine.old engine.new }
 {
     let d = digit.element();
-    let base = system.parameters().base;
+    let base = S::BASE;
     engine.add(d.x, d.y);
     engine.shift(base.x, base.y);
 }

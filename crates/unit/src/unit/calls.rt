@@ -1,10 +1,9 @@
 ghost use Rattle.std.specs.Prelude.{◌≡◌, MatchResult};
 ghost use Rattle.rules.specs.Told.{Abandons, Checks, Down, DownPut, DownTick, Loads, Puts, Takes, Ticks, Widens};
-ghost use Rattle.unit.specs.Seen.{machine, setting, view};
+ghost use Rattle.unit.specs.Seen.{setting, view};
 
 use crate::parts::{feed, left_by, left_with, matches, served};
 use crate::unit::Unit;
-use digits::steps::step;
 use digits::verdict::Verdict;
 use engine::PointEngine;
 use numbers::{Asks, Coordinate, Element, NumberSystem, Ruled};
@@ -17,92 +16,75 @@ use verdict::judge;
 impl<S: NumberSystem, E: PointEngine> Unit<S, E> {
     // Empties the digits at another width, and answers the number of classes.
     pub fn set_width(&mut self, places: u64) -> Result<u32, Refusal>
-        ensures told { MatchResult result (Widens (setting S.ring S.WIDEST S.Kind.LOADING S.Kind.WORKING) (machine E.meaning E.total_of E.current_of) (view S.Kind.value self.old) (view S.Kind.value self.new) places) (Down (setting S.ring S.WIDEST S.Kind.LOADING S.Kind.WORKING) (machine E.meaning E.total_of E.current_of) (view S.Kind.value self.old) (view S.Kind.value self.new) (Call.Width places)) }
+        ensures told { MatchResult result (Widens (setting S.ring S.WIDEST S.Kind.LOADING S.Kind.WORKING) E.machine (view S.Kind.value self.old) (view S.Kind.value self.new) places) (Down (setting S.ring S.WIDEST S.Kind.LOADING S.Kind.WORKING) E.machine (view S.Kind.value self.old) (view S.Kind.value self.new) (Call.Width places)) }
         ensures system { self.new.system ≡ self.old.system }
     {
-        if let Standing::Running = self.standing {
+        if self.standing == Standing::Running {
             return Err(Refusal::Busy);
         }
-        let Some(width) = served(&self.system, places) else {
-            return Err(Refusal::Width);
-        };
+        let width = served::<S>(places).ok_or(Refusal::Width)?;
         self.set = DigitSet::new(width);
         self.verdict = None;
         self.standing = Standing::Draft;
-        Ok(class_count(&self.system, width))
+        Ok(class_count::<S>(width))
     }
 
     // Adds the digit (x, y), and answers how many are held.
     pub fn put(&mut self, x: i64, y: i64) -> Result<usize, Refusal>
-        ensures told { MatchResult result (Puts (setting S.ring S.WIDEST S.Kind.LOADING S.Kind.WORKING) (machine E.meaning E.total_of E.current_of) (view S.Kind.value self.old) (view S.Kind.value self.new) x y) (DownPut (setting S.ring S.WIDEST S.Kind.LOADING S.Kind.WORKING) (machine E.meaning E.total_of E.current_of) (view S.Kind.value self.old) (view S.Kind.value self.new) x y) }
+        ensures told { MatchResult result (Puts (setting S.ring S.WIDEST S.Kind.LOADING S.Kind.WORKING) E.machine (view S.Kind.value self.old) (view S.Kind.value self.new) x y) (DownPut (setting S.ring S.WIDEST S.Kind.LOADING S.Kind.WORKING) E.machine (view S.Kind.value self.old) (view S.Kind.value self.new) x y) }
         ensures system { self.new.system ≡ self.old.system }
     {
-        if let Standing::Running = self.standing {
+        if self.standing == Standing::Running {
             return Err(Refusal::Busy);
         }
-        match self.set.put(&self.system, x, y) {
-            Ok(held) => {
-                self.verdict = None;
-                self.standing = Standing::Draft;
-                Ok(held)
-            }
-            Err(refusal) => Err(refusal),
-        }
+        let held = self.set.put(&self.system, x, y)?;
+        self.verdict = None;
+        self.standing = Standing::Draft;
+        Ok(held)
     }
 
     // Removes the digit (x, y), and answers how many are held.
     pub fn take(&mut self, x: i64, y: i64) -> Result<usize, Refusal>
-        ensures told { MatchResult result (Takes (setting S.ring S.WIDEST S.Kind.LOADING S.Kind.WORKING) (machine E.meaning E.total_of E.current_of) (view S.Kind.value self.old) (view S.Kind.value self.new) x y) (Down (setting S.ring S.WIDEST S.Kind.LOADING S.Kind.WORKING) (machine E.meaning E.total_of E.current_of) (view S.Kind.value self.old) (view S.Kind.value self.new) (Call.Take x y)) }
+        ensures told { MatchResult result (Takes (setting S.ring S.WIDEST S.Kind.LOADING S.Kind.WORKING) E.machine (view S.Kind.value self.old) (view S.Kind.value self.new) x y) (Down (setting S.ring S.WIDEST S.Kind.LOADING S.Kind.WORKING) E.machine (view S.Kind.value self.old) (view S.Kind.value self.new) (Call.Take x y)) }
         ensures system { self.new.system ≡ self.old.system }
     {
-        if let Standing::Running = self.standing {
+        if self.standing == Standing::Running {
             return Err(Refusal::Busy);
         }
-        match self.set.take(x, y) {
-            Ok(held) => {
-                self.verdict = None;
-                self.standing = Standing::Draft;
-                Ok(held)
-            }
-            Err(refusal) => Err(refusal),
-        }
+        let held = self.set.take(x, y)?;
+        self.verdict = None;
+        self.standing = Standing::Draft;
+        Ok(held)
     }
 
     // Checks the set, and answers the verdict.
     pub fn check(&mut self) -> Result<Verdict, Refusal>
-        ensures told { MatchResult result (Checks (setting S.ring S.WIDEST S.Kind.LOADING S.Kind.WORKING) (machine E.meaning E.total_of E.current_of) (view S.Kind.value self.old) (view S.Kind.value self.new)) (Down (setting S.ring S.WIDEST S.Kind.LOADING S.Kind.WORKING) (machine E.meaning E.total_of E.current_of) (view S.Kind.value self.old) (view S.Kind.value self.new) Call.Check) }
+        ensures told { MatchResult result (Checks (setting S.ring S.WIDEST S.Kind.LOADING S.Kind.WORKING) E.machine (view S.Kind.value self.old) (view S.Kind.value self.new)) (Down (setting S.ring S.WIDEST S.Kind.LOADING S.Kind.WORKING) E.machine (view S.Kind.value self.old) (view S.Kind.value self.new) Call.Check) }
         ensures system { self.new.system ≡ self.old.system }
     {
-        if let Standing::Running = self.standing {
+        if self.standing == Standing::Running {
             return Err(Refusal::Busy);
         }
-        match judge(&self.system, &self.set) {
-            Ok(verdict) => {
-                self.verdict = Some(verdict);
-                self.standing = left_by(verdict);
-                Ok(verdict)
-            }
-            Err(refusal) => Err(refusal),
-        }
+        let verdict = judge(&self.system, &self.set)?;
+        self.verdict = Some(verdict);
+        self.standing = left_by(verdict);
+        Ok(verdict)
     }
 
     // Loads an element: the engine is restarted, and a run is on, unless the element is 0.
     pub fn load(&mut self, z: Element<i64>) -> Result<(), Refusal>
-        ensures told { MatchResult result (λ _. Loads (setting S.ring S.WIDEST S.Kind.LOADING S.Kind.WORKING) (machine E.meaning E.total_of E.current_of) (view S.Kind.value self.old) (view S.Kind.value self.new) z) (Down (setting S.ring S.WIDEST S.Kind.LOADING S.Kind.WORKING) (machine E.meaning E.total_of E.current_of) (view S.Kind.value self.old) (view S.Kind.value self.new) (Call.Load z)) }
+        ensures told { MatchResult result (λ _. Loads (setting S.ring S.WIDEST S.Kind.LOADING S.Kind.WORKING) E.machine (view S.Kind.value self.old) (view S.Kind.value self.new) z) (Down (setting S.ring S.WIDEST S.Kind.LOADING S.Kind.WORKING) E.machine (view S.Kind.value self.old) (view S.Kind.value self.new) (Call.Load z)) }
         ensures system { self.new.system ≡ self.old.system }
     {
         match self.standing {
             Standing::Running => return Err(Refusal::Busy),
-            Standing::Draft => return Err(Refusal::Uncleared),
-            Standing::Barred => return Err(Refusal::Uncleared),
+            Standing::Draft | Standing::Barred => return Err(Refusal::Uncleared),
             Standing::Cleared => {}
         }
-        if !matches(&self.system, &self.engine) {
+        if !matches::<S, E>(&self.engine) {
             return Err(Refusal::Ring);
         }
-        let Some(remainder) = Element::<S::Kind>::load(z) else {
-            return Err(Refusal::Long);
-        };
+        let remainder = Element::<S::Kind>::load(z).ok_or(Refusal::Long)?;
         self.engine.restart();
         self.ticks = 0;
         self.remainder = remainder;
@@ -112,38 +94,33 @@ impl<S: NumberSystem, E: PointEngine> Unit<S, E> {
 
     // Takes one step, feeds its digit to the engine, counts one and answers the digit.
     pub fn tick(&mut self) -> Result<Element<i32>, Refusal>
-        ensures told { MatchResult result (Ticks (setting S.ring S.WIDEST S.Kind.LOADING S.Kind.WORKING) (machine E.meaning E.total_of E.current_of) (view S.Kind.value self.old) (view S.Kind.value self.new)) (DownTick (setting S.ring S.WIDEST S.Kind.LOADING S.Kind.WORKING) (machine E.meaning E.total_of E.current_of) (view S.Kind.value self.old) (view S.Kind.value self.new)) }
+        ensures told { MatchResult result (Ticks (setting S.ring S.WIDEST S.Kind.LOADING S.Kind.WORKING) E.machine (view S.Kind.value self.old) (view S.Kind.value self.new)) (DownTick (setting S.ring S.WIDEST S.Kind.LOADING S.Kind.WORKING) E.machine (view S.Kind.value self.old) (view S.Kind.value self.new)) }
         ensures system { self.new.system ≡ self.old.system }
     {
-        let Standing::Running = self.standing else {
+        if self.standing != Standing::Running {
             return Err(Refusal::Idle);
-        };
-        let Some(taken) = step(
-            &self.system,
-            self.set.width(),
-            self.set.as_slice(),
-            self.remainder,
-        ) else {
-            return Err(Refusal::Idle);
-        };
-        let Some(ticks) = self.ticks.checked_add(1) else {
-            return Err(Refusal::Idle);
-        };
-        feed(&self.system, &mut self.engine, taken.0);
+        }
+        let (digit, remainder) = self
+            .set
+            .numeration(&self.system)
+            .step(self.remainder)
+            .ok_or(Refusal::Idle)?;
+        let ticks = self.ticks.checked_add(1).ok_or(Refusal::Idle)?;
+        feed::<S, E>(&mut self.engine, digit);
         self.ticks = ticks;
-        self.remainder = taken.1;
-        self.standing = left_with(taken.1);
-        Ok(taken.0.element())
+        self.remainder = remainder;
+        self.standing = left_with(remainder);
+        Ok(digit.element())
     }
 
     // Ends the run; ticks, total and remainder stay.
     pub fn abandon(&mut self) -> Result<(), Refusal>
-        ensures told { MatchResult result (λ _. Abandons (setting S.ring S.WIDEST S.Kind.LOADING S.Kind.WORKING) (machine E.meaning E.total_of E.current_of) (view S.Kind.value self.old) (view S.Kind.value self.new)) (Down (setting S.ring S.WIDEST S.Kind.LOADING S.Kind.WORKING) (machine E.meaning E.total_of E.current_of) (view S.Kind.value self.old) (view S.Kind.value self.new) Call.Abandon) }
+        ensures told { MatchResult result (λ _. Abandons (setting S.ring S.WIDEST S.Kind.LOADING S.Kind.WORKING) E.machine (view S.Kind.value self.old) (view S.Kind.value self.new)) (Down (setting S.ring S.WIDEST S.Kind.LOADING S.Kind.WORKING) E.machine (view S.Kind.value self.old) (view S.Kind.value self.new) Call.Abandon) }
         ensures system { self.new.system ≡ self.old.system }
     {
-        let Standing::Running = self.standing else {
+        if self.standing != Standing::Running {
             return Err(Refusal::Idle);
-        };
+        }
         self.standing = Standing::Cleared;
         Ok(())
     }

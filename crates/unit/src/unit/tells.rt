@@ -26,7 +26,7 @@ impl<S: NumberSystem, E: PointEngine> Unit<S, E> {
             set: DigitSet::new(Width::narrowest()),
             standing: Standing::Draft,
             ticks: 0,
-            remainder: Element::from_short(Digit::none().element()),
+            remainder: Element::zero(),
             verdict: None,
         }
     }
@@ -91,6 +91,6 @@ impl<S: NumberSystem, E: PointEngine> Unit<S, E> {
     pub fn table_need(&self) -> usize
         ensures { result ≡ (length (view S.Kind.value self.now).digits + 1) / 2 }
     {
-        (self.set.len() + 1) / 2
+        self.set.len().div_ceil(2)
     }
 }

@@ -11,5 +11,5 @@ within p widest a b d (Some w) e = (e, ⊎_elim (λ z. omega arith) (λ z. omega
 pub returns : goal.returns
 returns g c =
     let a : 1 ≤ c.args.places = omega (arith, c.if-places-eq0.false) in
-    let b : c.args.places ≤ g.S.Ruled.WIDEST = omega (arith, c.if-places-parameters.false, c.parameters.ensures.wide) in
+    let b : c.args.places ≤ g.S.Ruled.WIDEST = omega (arith, c.if-places-from.false, c.from.ensures, c.WIDEST.ensures) in
     within c.args.places g.S.Ruled.WIDEST a b (widest_small g.S.Ruled.ring g.S.Ruled.lawful g.S.Ruled.WIDEST g.S.Ruled.widths) c.new.result c.new.ensures
