@@ -20,10 +20,10 @@ under_lt bs few u =
 pub value_lt : (bs : List ℕ) → Plain bs → value bs < 16 ^ most
 value_lt bs p = under_lt bs p.few p.digits
 
-module _ (bs : List ℕ) (i : ℕ) (lt : i < length bs) where
-  pub short : length bs ≤ most → length (take i bs) ≤ most
-  short h = rw length-take (omega arith)
+pub counted_lt : (bs : List ℕ) (n : ℕ) → Counts bs n → n < 16 ^ most
+counted_lt bs n h = omega (arith, value_lt bs h.0, h.1)
 
+module _ (bs : List ℕ) (i : ℕ) (lt : i < length bs) where
   pub value_more : value (take (i + 1) bs) ≡ value (take i bs) * 16 + hex_value (get_or bs i 0)
   value_more = ap (number_from_digits 16) (map_more hex_value bs i 0 lt) ∙ number_push 16 (map hex_value (take i bs)) (hex_value (get_or bs i 0))
 
@@ -34,6 +34,10 @@ module _ (bs : List ℕ) (i : ℕ) (lt : i < length bs) where
   no_digit h p =
       let long : i < length (map hex_value bs) = rw length-map lt in
       omega (arith, All-get_or (λ d. d < 16) (map hex_value bs) i 0 long p.digits, get_or-map hex_value bs i 0 0 lt)
+
+-- what the digits before place i make is small
+pub so_far : (bs : List ℕ) (i n : ℕ) → i < length bs → length bs ≤ most → (n ≡ value (take i bs)) × AllBelowBase 16 (map hex_value (take i bs)) → n < 16 ^ most
+so_far bs i n lt few h = omega (arith, h.0, under_lt (take i bs) (rw length-take (omega arith)) h.1)
 
 -- the number behind a minus
 abbrev Minus : List ℕ → ℤ → Type 0

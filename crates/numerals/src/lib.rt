@@ -24,7 +24,7 @@ fn digit(b: u8) -> Option<u8>
 fn needless_zero(bs: &[u8]) -> bool
     ensures { Decides result ((1 < length bs.now) × (hex_value (slice_index bs.now 0) ≡ 0)) }
 {
-    bs.len() > 1 && bs[0] == b'0'
+    matches!(bs, [b'0', _, ..])
 }
 
 // The number that the bytes denote, with no minus allowed.
@@ -36,10 +36,7 @@ pub fn natural(bs: &[u8]) -> Option<u64>
     }
     let mut n = 0u64;
     for b in bs {
-        let Some(d) = digit(*b) else {
-            return None;
-        };
-        n = n * 16 + u64::from(d);
+        n = n * 16 + u64::from(digit(*b)?);
     }
     Some(n)
 }
@@ -57,18 +54,8 @@ pub fn integer(bs: &[u8]) -> Option<i64>
     ensures { MatchOption result ((z : ℤ) → Reads bs.now z → ⊥) (λ z. Reads bs.now z) }
 {
     match bs {
-        [b'-', rest @ ..] => {
-            let Some(n) = natural(rest) else {
-                return None;
-            };
-            opposite(n)
-        }
-        _ => {
-            let Some(n) = natural(bs) else {
-                return None;
-            };
-            Some(n as i64)
-        }
+        [b'-', rest @ ..] => opposite(natural(rest)?),
+        _ => Some(natural(bs)? as i64),
     }
 }
 
