@@ -2,8 +2,9 @@
 
 #![tactic(auto)]
 
-ghost use Rattle.std.specs.Prelude.{◌≡◌, ℕ, ◌+◌, ◌^◌, ◌<◌, ◌≤◌, length, ℤ, pos, neg_ℤ, Decides, MatchOption, slice_index};
+ghost use Rattle.std.specs.Prelude.{◌≡◌, ℕ, ◌+◌, ◌^◌, ◌<◌, ◌≤◌, length, ℤ, pos, neg_ℤ, List, Decides, MatchOption, slice_index};
 ghost use Rattle.numerals.specs.Numeral.{most, hex_value, Counts, Reads, hex, hex_digit, written, ReadAsWritten, OneNumber, CountsAreRead};
+ghost use Rattle.numerals.specs.Once.{counts_once, reads_once};
 ghost use Rattle.numerals.specs.Overwrite.{overwrite};
 
 // The most digits of a numeral.
@@ -56,6 +57,40 @@ pub fn integer(bs: &[u8]) -> Option<i64>
     match bs {
         [b'-', rest @ ..] => opposite(natural(rest)?),
         _ => Some(natural(bs)? as i64),
+    }
+}
+
+// A type of numbers that bytes may denote.
+pub trait Numeral: Copy {
+    ghost denotes: { List ℕ → Self → Type 0 };
+
+    // A proof that bytes denote a number is like any other.
+    ghost once: { (bs : List ℕ) (x : Self) → IsProp (denotes bs x) };
+
+    // The number that the bytes denote.
+    fn read(bs: &[u8]) -> Option<Self>
+        ensures { MatchOption result ((x : Self) → denotes bs.now x → ⊥) (λ x. denotes bs.now x) };
+}
+
+// Numbers with no minus.
+impl Numeral for u64 {
+    ghost denotes = { Counts };
+
+    ghost once = { counts_once };
+
+    fn read(bs: &[u8]) -> Option<u64> {
+        natural(bs)
+    }
+}
+
+// Numbers with a minus allowed.
+impl Numeral for i64 {
+    ghost denotes = { Reads };
+
+    ghost once = { reads_once };
+
+    fn read(bs: &[u8]) -> Option<i64> {
+        integer(bs)
     }
 }
 

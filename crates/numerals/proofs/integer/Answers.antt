@@ -1,4 +1,4 @@
-use Rattle.std.proofs.Common.{◌≡◌, ◌≤◌, length, get_or, pos, ap, ◌∙◌, arith, w64, rules, ltb-false, ltb-true}
+use Rattle.std.proofs.Common.{◌≡◌, ◌≤◌, length, get_or, pos, ap, ◌∙◌, arith, w64, rules, ltb-true}
 use Rattle.std.proofs.lemmas.Int.{to_z_pos}
 use Rattle.numerals.proofs.integer.Goals.{In_default, in_default-via-then-bs-lt1, in_default-via-else-bs-lt1+in_default-1}
 use Rattle.numerals.proofs.Digits.{counted_lt, bare_in, fits}

@@ -1,5 +1,4 @@
-use Rattle.std.proofs.Common.{◌≡◌, ◌^◌, ◌<◌, ◌≤◌, MatchOption, length, arith}
-use Rattle.numerals.specs.Numeral.{most}
+use Rattle.std.proofs.Common.{◌<◌, length, arith}
 use Rattle.numerals.proofs.Digits.{so_far, value_more, under_more, no_digit}
 use Rattle.numerals.proofs.natural.Goals as goal
 
