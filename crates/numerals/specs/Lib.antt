@@ -1,3 +1,3 @@
 pub mod Numeral
-pub mod Once
+pub mod Laws
 pub mod Overwrite

@@ -1,5 +1,6 @@
 -- Numerals: how a number is written, an optional minus and hexadecimal digits.
-use Rattle.std.specs.Prelude.{◌≡◌, ℕ, suc, ◌+◌, ◌^◌, ◌<◌, ◌≤◌, cond, List, [], ◌∷◌, map, length, ℤ, pos, negsuc, neg_ℤ, codes, MatchBool, ◌==◌, slice_index, unsigned_abs}
+use Rattle.std.specs.Prelude.{◌≡◌, ℕ, suc, ◌+◌, ◌^◌, ◌<◌, ◌≤◌, cond, List, [], ◌∷◌, map, length, ℤ, pos, negsuc, neg_ℤ, codes, MatchBool, ◌==◌, ◌≢◌, slice_index, unsigned_abs}
+use Rattle.std.specs.List.{AllByRecursion}
 use Rattle.std.specs.Int.Digits.{digits_of, number_from_digits, AllBelowBase}
 
 -- the most digits that a numeral has
@@ -43,6 +44,10 @@ abbrev pub Reads : List ℕ → ℤ → Type 0
 Reads [] z = ⊥
 Reads (c ∷ cs) z =
     MatchBool (c == 45) (Plain cs × (0 < value cs) × (z ≡ neg_ℤ (pos (value cs)))) (Plain (c ∷ cs) × (z ≡ pos (value (c ∷ cs))))
+
+-- no comma stands in the bytes
+abbrev pub NoComma : List ℕ → Type 0
+NoComma bs = AllByRecursion (λ c. c ≢ 44) bs
 
 -- the digits of a natural number
 unfoldable pub hex : ℕ → List ℕ

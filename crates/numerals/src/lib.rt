@@ -3,8 +3,7 @@
 #![tactic(auto)]
 
 ghost use Rattle.std.specs.Prelude.{◌≡◌, ℕ, ◌+◌, ◌^◌, ◌<◌, ◌≤◌, length, ℤ, pos, neg_ℤ, List, Decides, MatchOption, slice_index};
-ghost use Rattle.numerals.specs.Numeral.{most, hex_value, Counts, Reads, hex, hex_digit, written, ReadAsWritten, OneNumber, CountsAreRead};
-ghost use Rattle.numerals.specs.Once.{counts_once, reads_once};
+ghost use Rattle.numerals.specs.Numeral.{most, hex_value, Counts, Reads, NoComma, hex, hex_digit, written, ReadAsWritten, OneNumber, CountsAreRead};
 ghost use Rattle.numerals.specs.Overwrite.{overwrite};
 
 // The most digits of a numeral.
@@ -70,13 +69,20 @@ pub trait Numeral: Copy {
     // The number that the bytes denote.
     fn read(bs: &[u8]) -> Option<Self>
         ensures { MatchOption result ((x : Self) → denotes bs.now x → ⊥) (λ x. denotes bs.now x) };
+
+    // A comma parts numbers.
+    ghost apart: { (bs : List ℕ) (x : Self) → denotes bs x → NoComma bs };
 }
 
 // Numbers with no minus.
 impl Numeral for u64 {
+    ghost use Rattle.numerals.specs.Laws.{counts_once, counts_apart};
+
     ghost denotes = { Counts };
 
     ghost once = { counts_once };
+
+    ghost apart = { counts_apart };
 
     fn read(bs: &[u8]) -> Option<u64> {
         natural(bs)
@@ -85,9 +91,13 @@ impl Numeral for u64 {
 
 // Numbers with a minus allowed.
 impl Numeral for i64 {
+    ghost use Rattle.numerals.specs.Laws.{reads_once, reads_apart};
+
     ghost denotes = { Reads };
 
     ghost once = { reads_once };
+
+    ghost apart = { reads_apart };
 
     fn read(bs: &[u8]) -> Option<i64> {
         integer(bs)

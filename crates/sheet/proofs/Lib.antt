@@ -1,4 +1,0 @@
-pub mod Splits
-pub mod Commas
-pub mod Heads
-pub mod Unique
