@@ -1,0 +1,4 @@
+pub mod Splits
+pub mod Commas
+pub mod Heads
+pub mod Unique
