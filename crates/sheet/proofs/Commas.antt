@@ -1,8 +1,7 @@
 -- Number fields parted by commas.
-use Rattle.std.proofs.Common.{◌≡◌, ℕ, zero, suc, ◌+◌, ◌<◌, List, [], ◌∷◌, ◌++◌, length, sym, refl, ap, ◌∙◌, subst, arith}
-use Rattle.std.specs.List.{AllByRecursion}
+use Rattle.std.proofs.Common.{◌≡◌, ℕ, ◌+◌, List, [], ◌∷◌, length, sym, refl, ap, ◌∙◌, subst, arith}
 use Rattle.std.proofs.ByRecursion.{All-get_or}
-use Rattle.numerals.specs.Numeral.{Counts, NoComma}
+use Rattle.numerals.specs.Numeral.{NoComma}
 use Rattle.sheet.specs.declared.field.Field.{Field}
 use Rattle.sheet.specs.declared.line.System.{System}
 use Rattle.sheet.specs.declared.line.System.TheVariants.{Kp, Km, G5}
@@ -13,15 +12,8 @@ use Rattle.sheet.proofs.Splits.{same_parts, not_free}
 pub apart_free : (s : List ℕ) → NoComma s → Free 44 s
 apart_free s h k lt = All-get_or (λ c. c ≡ 44 → ⊥) s k 0 lt h
 
-pub parts_one : (f : Field) → Parts f.place (bytes f) (f ∷ [])
-parts_one f = (refl, (refl, tt))
-
 pub parts_none : (p : ℕ) (s : List ℕ) → Free 44 s → (a g : Field) (fs : List Field) → Parts p s (a ∷ g ∷ fs) → ⊥
 parts_none p s n a g fs h = not_free 44 s (bytes a) (joined (g ∷ fs)) h.0 n
-
-pub parts_more : (f a rest : Field) → Split 44 f a rest → (g : Field) (fs : List Field) → Parts rest.place (bytes rest) (g ∷ fs) → Parts f.place (bytes f) (a ∷ g ∷ fs)
-parts_more f a rest s g fs h =
-    (s.whole ∙ ap (λ l. bytes a ++ (44 ∷ l)) h.0, (s.here, subst (λ p. Placed p (g ∷ fs)) s.next h.1))
 
 -- of numbers in whose bytes no comma stands
 module _ {N : Type 0} (denotes : List ℕ → N → Type 0) (apart : (bs : List ℕ) (x : N) → denotes bs x → NoComma bs) where
@@ -56,12 +48,6 @@ pub named_none : (p : ℕ) (t : List ℕ) → Free 44 t → (s : System) (fs : L
 named_none p t n s fs (u, e, h) = not_free 44 t (name_of s) u e n
 
 module _ (f name rest : Field) (split : Split 44 f name rest) (s : System) (fs : List Field) where
-  pub named_in : bytes name ≡ name_of s → Parts rest.place (bytes rest) fs → Named f.place (bytes f) s fs
-  named_in e h =
-      let long = ap length e ∙ name_length s in
-      let place : rest.place ≡ f.place + 3 = omega (arith, split.next) in
-      (bytes rest, split.whole ∙ ap (λ l. l ++ (44 ∷ bytes rest)) e, subst (λ p. Parts p (bytes rest) fs) place h)
-
   pub named_out : Named f.place (bytes f) s fs → (bytes name ≡ name_of s) × Parts rest.place (bytes rest) fs
   named_out (u, e, h) =
       let same = same_parts 44 (bytes name) (name_of s) (bytes rest) u (sym split.whole ∙ e) split.first (name_free s) in

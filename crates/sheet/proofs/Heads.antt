@@ -1,5 +1,5 @@
 -- A line's letter and its comma.
-use Rattle.std.proofs.Common.{◌≡◌, ℕ, ◌+◌, ◌-◌, ◌≤◌, true, false, List, [], ◌∷◌, ◌++◌, length, get_or, take, drop, Some, None, Option, sym, refl, ap, ◌∙◌, subst, append_assoc, arith, length-append, MatchOption, MatchResult}
+use Rattle.std.proofs.Common.{◌≡◌, ℕ, ◌+◌, ◌-◌, ◌≤◌, List, [], ◌∷◌, ◌++◌, length, get_or, take, drop, Some, None, Option, sym, refl, ◌∙◌, subst, append_assoc, arith, length-append, MatchOption, MatchResult}
 use Rattle.std.proofs.lemmas.Slice.{between_to_end}
 use Rattle.std.specs.List.{AllByRecursion}
 use Rattle.std.specs.Option.{ok_or}
@@ -49,21 +49,6 @@ with_head p k (x ∷ y ∷ t) (Some l) h i e b =
 with_head p k (x ∷ y ∷ t) None h i e b =
     let rest = between_to_end (x ∷ y ∷ t) 2 (length (x ∷ y ∷ t)) (omega arith) in
     (refl, λ l w. b l (body_out p k _ l (subst (λ z. Shape p z l) (λ j. sym i j ∷ e j ∷ sym rest j) w)))
-
-second : (s : List ℕ) (x : ℕ) (u : List ℕ) → s ≡ x ∷ 44 ∷ u → (2 ≤ length s → get_or s 1 0 ≡ 44 → ⊥) → ⊥
-second s x u e n = n (omega (arith, ap length e)) (ap (λ l. get_or l 1 0) e)
-
--- no line but a check has another shape
-pub no_shape : (p : ℕ) (s : List ℕ) → (s ≡ 67 ∷ [] → ⊥) → (2 ≤ length s → get_or s 1 0 ≡ 44 → ⊥) → (l : Line) → Shape p s l → ⊥
-no_shape p s c n (System d m r g) (u, e, h) = second s 83 _ e n
-no_shape p s c n (Width w) (u, e, h) = second s 87 _ e n
-no_shape p s c n (Put x y) (u, e, h) = second s 68 _ e n
-no_shape p s c n (Take x y) (u, e, h) = second s 88 _ e n
-no_shape p s c n Check (u, e, h) = c (e ∙ ap (λ l. 67 ∷ l) h.0)
-no_shape p s c n (Load x y) (u, e, h) = second s 90 _ e n
-
-pub check_shape : (p : ℕ) (s : List ℕ) → s ≡ 67 ∷ [] → Shape p s Check
-check_shape p s e = ([], e, (refl, tt))
 
 -- what is no system's name with its numbers is the body of no system's line
 pub no_system : (p : ℕ) (t : List ℕ) → ((s : Name) (m r g : Field) → Named p t s (m ∷ r ∷ g ∷ []) → AllByRecursion (IsNumber Counts) (m ∷ r ∷ g ∷ []) → ⊥) → (l : Line) → Body 83 p t l → ⊥

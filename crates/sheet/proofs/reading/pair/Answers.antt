@@ -1,4 +1,4 @@
-use Rattle.std.proofs.Common.{[], ◌∷◌}
+use Rattle.std.proofs.Common.{[]}
 use Rattle.sheet.proofs.Commas.{parts_none, numbers_less, one_number}
 use Rattle.sheet.proofs.reading.pair.Goals as goal
 
