@@ -9,7 +9,7 @@ pub enum System {
 }
 
 // A line of a sheet, with its number fields.
-#[derive(Clone, Copy)]
+#[derive(Clone, Copy, Debug, PartialEq, Eq)]
 pub enum Line<'a> {
     // The system, and the modulus, the root and the start of its residue engine.
     System {

@@ -5,12 +5,14 @@ use numerals::Numeral;
 use std::alloc::AllocError;
 
 // A field, and the number that its bytes denote.
+#[derive(Debug, PartialEq, Eq)]
 pub struct Number<'a, N: Numeral> {
     pub field: Field<'a>,
     pub value: N,
     ghost denotes: { N.denotes field.text.now value } by { N.once field.text.now value },
 }
 
+// Written out, since `Clone` is not derived for a struct with a ghost field and a type parameter.
 impl<'a, N: Numeral> Copy for Number<'a, N> {}
 
 impl<'a, N: Numeral> Clone for Number<'a, N> {
