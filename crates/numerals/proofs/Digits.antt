@@ -1,5 +1,5 @@
 -- Digits read, and the minus before them.
-use Rattle.std.proofs.Common.{◌≡◌, ℕ, ◌+◌, ◌*◌, ◌^◌, ◌<◌, ◌≤◌, List, [], ◌∷◌, map, length, get_or, take, ℤ, pos, neg_ℤ, MatchBool, sym, ap, ◌∙◌, subst, arith, length-take, w64, SFits, ne_eqb}
+use Rattle.std.proofs.Common.{◌≡◌, ℕ, ◌+◌, ◌*◌, ◌^◌, ◌<◌, ◌≤◌, List, [], ◌∷◌, map, length, get_or, take, ℤ, pos, MatchBool, sym, ap, ◌∙◌, subst, arith, length-take, w64, SFits, ne_eqb}
 use native.Mathlib.Nat.{pow-le-pow_right}
 use lib.ListN.{length-map}
 use Rattle.std.specs.Int.Digits.{number_from_digits, AllBelowBase}
@@ -7,7 +7,7 @@ use Rattle.std.proofs.lemmas.Int.Digits.{number_lt, number_push}
 use Rattle.std.proofs.lemmas.List.{map_more, get_or-map}
 use Rattle.std.proofs.ByRecursion.{All-push, All-get_or}
 use Rattle.std.proofs.lemmas.Int.{ints}
-use Rattle.numerals.specs.Numeral.{Counts, most, hex_value, value, Plain, Reads}
+use Rattle.numerals.specs.Numeral.{Counts, most, hex_value, value, Plain, Bare, Minus, Reads}
 
 pub under_lt : (bs : List ℕ) → length bs ≤ most → AllBelowBase 16 (map hex_value bs) → value bs < 16 ^ most
 under_lt bs few u =
@@ -37,13 +37,6 @@ module _ (bs : List ℕ) (i : ℕ) (lt : i < length bs) where
 -- what the digits before place i make is small
 pub so_far : (bs : List ℕ) (i n : ℕ) → i < length bs → length bs ≤ most → (n ≡ value (take i bs)) × AllBelowBase 16 (map hex_value (take i bs)) → n < 16 ^ most
 so_far bs i n lt few h = omega (arith, h.0, under_lt (take i bs) (rw length-take (omega arith)) h.1)
-
--- the number behind a minus, and one with no minus in front
-abbrev Minus : List ℕ → ℤ → Type 0
-Minus cs z = Plain cs × (0 < value cs) × (z ≡ neg_ℤ (pos (value cs)))
-
-abbrev Bare : List ℕ → ℤ → Type 0
-Bare bs z = Plain bs × (z ≡ pos (value bs))
 
 pub bare_in : (bs : List ℕ) (z : ℤ) → (1 ≤ length bs → get_or bs 0 0 ≡ 45 → ⊥) → Bare bs z → Reads bs z
 bare_in [] z n r = absurd (omega (arith, r.0.some))

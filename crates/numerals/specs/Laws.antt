@@ -1,10 +1,10 @@
--- That bytes denote a number: it has one proof at most, and no comma stands in the bytes.
+-- That bytes denote a number: it has one proof at most, and no comma stands in the bytes. The impls of `Numeral` cite these, and an impl cites no file of proofs/.
 use Rattle.std.specs.Prelude.{◌≡◌, ℕ, ◌<◌, Bool, true, false, List, [], ◌∷◌, map, ℤ, pos, neg_ℤ, MatchBool, ◌==◌}
 use Rattle.std.specs.Coded.{×_prop, le_prop, Coded-set, coded_ℕ, coded_ℤ}
 use Rattle.std.specs.List.{AllByRecursion-prop}
 use Rattle.std.specs.Int.Digits.{AllBelowBase}
 use Rattle.std.proofs.Common.{subst, lt_irrefl}
-use Rattle.numerals.specs.Numeral.{hex_value, value, Plain, Counts, Reads, NoComma}
+use Rattle.numerals.specs.Numeral.{hex_value, value, Plain, Counts, Bare, Minus, Reads, NoComma}
 
 plain_once : (bs : List ℕ) → IsProp (Plain bs)
 plain_once bs p q = λ i.
@@ -18,12 +18,7 @@ plain_once bs p q = λ i.
 pub counts_once : (bs : List ℕ) (n : ℕ) → IsProp (Counts bs n)
 counts_once bs n = ×_prop (plain_once bs) (Coded-set coded_ℕ n (value bs))
 
--- what a first byte that is a minus, or none, makes of the bytes c and cs
-abbrev Behind : Bool → ℕ → List ℕ → ℤ → Type 0
-Behind b c cs z =
-    MatchBool b (Plain cs × (0 < value cs) × (z ≡ neg_ℤ (pos (value cs)))) (Plain (c ∷ cs) × (z ≡ pos (value (c ∷ cs))))
-
-behind_once : (b : Bool) (c : ℕ) (cs : List ℕ) (z : ℤ) → IsProp (Behind b c cs z)
+behind_once : (b : Bool) (c : ℕ) (cs : List ℕ) (z : ℤ) → IsProp (MatchBool b (Minus cs z) (Bare (c ∷ cs) z))
 behind_once true c cs z p q = λ i.
     (plain_once cs p.0 q.0 i, le_prop p.1 q.1 i, Coded-set coded_ℤ z (neg_ℤ (pos (value cs))) p.2 q.2 i)
 behind_once false c cs z p q = λ i.
@@ -44,7 +39,7 @@ digits_apart (c ∷ cs) h = (no_digit c h.0, digits_apart cs h.1)
 pub counts_apart : (bs : List ℕ) (n : ℕ) → Counts bs n → NoComma bs
 counts_apart bs n h = digits_apart bs h.0.digits
 
-behind_apart : (b : Bool) (c : ℕ) (cs : List ℕ) (z : ℤ) → Behind b c cs z → NoComma cs
+behind_apart : (b : Bool) (c : ℕ) (cs : List ℕ) (z : ℤ) → MatchBool b (Minus cs z) (Bare (c ∷ cs) z) → NoComma cs
 behind_apart true c cs z h = digits_apart cs h.0.digits
 behind_apart false c cs z h = (digits_apart (c ∷ cs) h.0.digits).1
 
