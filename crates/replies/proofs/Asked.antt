@@ -1,6 +1,7 @@
 -- What a line asks for: no other line has its bytes.
-use Rattle.std.proofs.Common.{◌≡◌, ℕ, Bool, true, false, eqb, List, [], ◌∷◌, get_or, Some, None, Option, Ok, Err, Result, sym, refl, ap, ◌∙◌, subst, arith, MatchOption, MatchResult}
+use Rattle.std.proofs.Common.{◌≡◌, ℕ, Bool, true, false, eqb, List, [], ◌∷◌, get_or, Some, None, Option, Ok, Err, Result, sym, refl, ap, ◌∙◌, subst, MatchOption, MatchResult}
 use Rattle.std.specs.Result.{result_ok}
+use Rattle.std.proofs.lemmas.Bool.{false≢true, true≢false}
 use Rattle.std.proofs.lemmas.Option.{none-some}
 use Rattle.refusals.specs.declared.Refusal.{Refusal}
 use Rattle.refusals.specs.declared.Refusal.TheVariants as refusal
@@ -15,42 +16,27 @@ use Rattle.sheet.proofs.Unique.{one_shape}
 use Rattle.replies.specs.Asked.{Calls, Asks, Chooses, Chosen}
 use Rattle.replies.specs.declared.asking.Choice.{Choice}
 
-is_system : Line → Bool
-is_system (line.System s m r g) = true
-is_system (line.Width w) = false
-is_system (line.Put x y) = false
-is_system (line.Take x y) = false
-is_system line.Check = false
-is_system (line.Load x y) = false
-
-letter : List (List ℕ) → ℕ
+-- the first byte of the first part of a line
+abbrev letter : List (List ℕ) → ℕ
 letter [] = 0
 letter (p ∷ ps) = get_or p 0 0
 
-by_letter : (l : Line) → is_system l ≡ eqb (letter (parts_of l)) 83
-unfolding is_system letter
-by_letter (line.System s m r g) = refl
-by_letter (line.Width w) = refl
-by_letter (line.Put x y) = refl
-by_letter (line.Take x y) = refl
-by_letter line.Check = refl
-by_letter (line.Load x y) = refl
+abbrev is_system : Line → Bool
+is_system l = eqb (letter (parts_of l)) 83
 
 same_kind : (p : ℕ) (s : List ℕ) (k l : Line) → Shape p s k → Shape p s l → is_system k ≡ is_system l
-same_kind p s k l a b = by_letter k ∙ ap (λ ps. eqb (letter ps) 83) (one_shape p p s k l a b) ∙ sym (by_letter l)
+same_kind p s k l a b = ap (λ ps. eqb (letter ps) 83) (one_shape p p s k l a b)
 
 no_call : (l : Line) → is_system l ≡ true → (c : Call) → ¬ (Calls l c)
-unfolding is_system
 no_call (line.System s m r g) h c x = x
-no_call (line.Width w) h c x = absurd (let z : ◌≡◌ {A = ℕ} 0 1 = cc in omega arith)
-no_call (line.Put a b) h c x = absurd (let z : ◌≡◌ {A = ℕ} 0 1 = cc in omega arith)
-no_call (line.Take a b) h c x = absurd (let z : ◌≡◌ {A = ℕ} 0 1 = cc in omega arith)
-no_call line.Check h c x = absurd (let z : ◌≡◌ {A = ℕ} 0 1 = cc in omega arith)
-no_call (line.Load a b) h c x = absurd (let z : ◌≡◌ {A = ℕ} 0 1 = cc in omega arith)
+no_call (line.Width w) h c x = false≢true h
+no_call (line.Put a b) h c x = false≢true h
+no_call (line.Take a b) h c x = false≢true h
+no_call line.Check h c x = false≢true h
+no_call (line.Load a b) h c x = false≢true h
 
 no_choice : (l : Line) → is_system l ≡ false → (t : System) (m r g : ℕ) → ¬ (Chooses l t m r g)
-unfolding is_system
-no_choice (line.System s a b c) h t m r g x = absurd (let z : ◌≡◌ {A = ℕ} 0 1 = cc in omega arith)
+no_choice (line.System s a b c) h t m r g x = true≢false h
 no_choice (line.Width w) h t m r g x = x
 no_choice (line.Put a b) h t m r g x = x
 no_choice (line.Take a b) h t m r g x = x
@@ -59,7 +45,6 @@ no_choice (line.Load a b) h t m r g x = x
 
 -- a line of which no call is asked is a system's
 none_asked : (l : Line) → ((c : Call) → ¬ (Calls l c)) → is_system l ≡ true
-unfolding is_system
 none_asked (line.System s m r g) n = refl
 none_asked (line.Width w) n = absurd (n _ refl)
 none_asked (line.Put a b) n = absurd (n _ refl)
@@ -69,7 +54,6 @@ none_asked (line.Load a b) n = absurd (n _ refl)
 
 -- and one that chooses nothing is not
 none_chosen : (l : Line) → ((t : System) (m r g : ℕ) → ¬ (Chooses l t m r g)) → is_system l ≡ false
-unfolding is_system
 none_chosen (line.System s a b c) n = absurd (n _ _ _ _ (refl, refl, refl, refl))
 none_chosen (line.Width w) n = refl
 none_chosen (line.Put a b) n = refl
