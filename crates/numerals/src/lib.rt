@@ -112,6 +112,8 @@ fn letter(d: u8) -> u8
     if d < 10 { b'0' + d } else { b'a' + (d - 10) }
 }
 
+// The functions that write take the caller's buffer and a place in it: memory is fixed, and of a buffer that a struct holds nothing is known after a call.
+
 // Writes the digits of n from place `at` on, and tells the place after them.
 fn write_digits(out: &mut [u8], at: usize, n: u64) -> usize
     requires { at + length (hex n) ≤ length out.old }

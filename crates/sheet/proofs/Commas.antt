@@ -31,6 +31,10 @@ module _ {N : Type 0} (denotes : List ℕ → N → Type 0) (apart : (bs : List 
       let place : f.place + (length (bytes a') + 1) ≡ rest.place = omega (arith, s.next) in
       (number_same a' a (sym same.0) n, ((same.1, subst (λ p. Placed p (g ∷ fs)) place places.1), ns))
 
+  -- where the first part is no number, neither are the numbers that it begins
+  pub no_first : (f a rest : Field) → Split 44 f a rest → ((x : N) → denotes (bytes a) x → ⊥) → (a' g : Field) (fs : List Field) → Numbers denotes f.place (bytes f) (a' ∷ g ∷ fs) → ⊥
+  no_first f a rest s none a' g fs h = let n = (numbers_less f a rest s a' g fs h).0 in none n.0 n.1
+
 two_free : (x y : ℕ) → (x ≡ 44 → ⊥) → (y ≡ 44 → ⊥) → Free 44 (x ∷ y ∷ [])
 two_free x y m n = apart_free (x ∷ y ∷ []) (m, (n, tt))
 

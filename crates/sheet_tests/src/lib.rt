@@ -69,6 +69,20 @@ mod tests {
     }
 
     #[test]
+    fn values(rt: HostRuntime) {
+        let Ok(Line::Put(x, y)) = read_line(Field::whole(b"D,-ff,0")) else {
+            assert!(rt; false);
+            return;
+        };
+        assert_eq!(rt; (x.value, y.value), (-255, 0));
+        let Ok(Line::Width(w)) = read_line(Field::whole(b"W,1f")) else {
+            assert!(rt; false);
+            return;
+        };
+        assert_eq!(rt; w.value, 31);
+    }
+
+    #[test]
     fn cuts(rt: HostRuntime) {
         let Ok(Some((line, rest))) = next_line(Field::whole(b"W,2\nC")) else {
             assert!(rt; false);
