@@ -1,7 +1,6 @@
 // How a line is read.
 
 ghost use Rattle.std.specs.Prelude.{◌≡◌, [], ◌∷◌, MatchOption, MatchResult, ◌≢◌};
-ghost use Rattle.numerals.specs.Numeral.{Counts};
 ghost use Rattle.sheet.specs.declared.field.Field.{Field};
 ghost use Rattle.sheet.specs.Parting.{bytes};
 ghost use Rattle.sheet.specs.Shape.{Parts, Numbers, Body, Shape, OneShape, name_of};
