@@ -1,5 +1,5 @@
 -- Digits read, and the minus before them.
-use Rattle.std.proofs.Common.{◌≡◌, ℕ, zero, suc, ◌+◌, ◌-◌, ◌*◌, ◌^◌, ◌<◌, ◌≤◌, ◌⊎◌, List, [], ◌∷◌, map, length, get_or, take, drop, ℤ, pos, neg_ℤ, Some, None, MatchBool, Option, sym, refl, ap, ◌∙◌, subst, inl, inr, ⊎_elim, arith, length-take, w64, SFits, eq-eqb, ne_eqb, MatchOption}
+use Rattle.std.proofs.Common.{◌≡◌, ℕ, ◌+◌, ◌*◌, ◌^◌, ◌<◌, ◌≤◌, List, [], ◌∷◌, map, length, get_or, take, ℤ, pos, MatchBool, sym, ap, ◌∙◌, subst, arith, length-take, w64, SFits, ne_eqb}
 use native.Mathlib.Nat.{pow-le-pow_right}
 use lib.ListN.{length-map}
 use Rattle.std.specs.Int.Digits.{number_from_digits, AllBelowBase}
@@ -7,8 +7,7 @@ use Rattle.std.proofs.lemmas.Int.Digits.{number_lt, number_push}
 use Rattle.std.proofs.lemmas.List.{map_more, get_or-map}
 use Rattle.std.proofs.ByRecursion.{All-push, All-get_or}
 use Rattle.std.proofs.lemmas.Int.{ints}
-use Rattle.std.proofs.lemmas.Slice.{between_to_end}
-use Rattle.numerals.specs.Numeral.{Counts, most, hex_value, value, Plain, Reads}
+use Rattle.numerals.specs.Numeral.{Counts, most, hex_value, value, Plain, Bare, Minus, Reads}
 
 pub under_lt : (bs : List ℕ) → length bs ≤ most → AllBelowBase 16 (map hex_value bs) → value bs < 16 ^ most
 under_lt bs few u =
@@ -20,10 +19,10 @@ under_lt bs few u =
 pub value_lt : (bs : List ℕ) → Plain bs → value bs < 16 ^ most
 value_lt bs p = under_lt bs p.few p.digits
 
-module _ (bs : List ℕ) (i : ℕ) (lt : i < length bs) where
-  pub short : length bs ≤ most → length (take i bs) ≤ most
-  short h = rw length-take (omega arith)
+pub counted_lt : (bs : List ℕ) (n : ℕ) → Counts bs n → n < 16 ^ most
+counted_lt bs n h = omega (arith, value_lt bs h.0, h.1)
 
+module _ (bs : List ℕ) (i : ℕ) (lt : i < length bs) where
   pub value_more : value (take (i + 1) bs) ≡ value (take i bs) * 16 + hex_value (get_or bs i 0)
   value_more = ap (number_from_digits 16) (map_more hex_value bs i 0 lt) ∙ number_push 16 (map hex_value (take i bs)) (hex_value (get_or bs i 0))
 
@@ -35,47 +34,13 @@ module _ (bs : List ℕ) (i : ℕ) (lt : i < length bs) where
       let long : i < length (map hex_value bs) = rw length-map lt in
       omega (arith, All-get_or (λ d. d < 16) (map hex_value bs) i 0 long p.digits, get_or-map hex_value bs i 0 0 lt)
 
--- the number behind a minus
-abbrev Minus : List ℕ → ℤ → Type 0
-Minus cs z = Plain cs × (0 < value cs) × (z ≡ neg_ℤ (pos (value cs)))
-
-abbrev Bare : List ℕ → ℤ → Type 0
-Bare bs z = Plain bs × (z ≡ pos (value bs))
-
-abbrev behind : List ℕ → List ℕ
-behind bs = take (length bs - 1) (drop 1 bs)
-
-pub minus_out : (bs : List ℕ) (z : ℤ) → get_or bs 0 0 ≡ 45 → Reads bs z → Minus (behind bs) z
-minus_out [] z e r = absurd r
-minus_out (c ∷ cs) z e r =
-    subst (λ l. Minus l z) (sym (between_to_end (c ∷ cs) 1 _ (omega arith)))
-    (subst (λ b. MatchBool b (Minus cs z) (Bare (c ∷ cs) z)) (eq-eqb c 45 e) r)
-
-pub minus_in : (bs : List ℕ) (z : ℤ) → 1 ≤ length bs → get_or bs 0 0 ≡ 45 → Minus (behind bs) z → Reads bs z
-minus_in [] z h e r = absurd (omega arith)
-minus_in (c ∷ cs) z h e r =
-    subst (λ b. MatchBool b (Minus cs z) (Bare (c ∷ cs) z)) (sym (eq-eqb c 45 e))
-    (subst (λ l. Minus l z) (between_to_end (c ∷ cs) 1 _ (omega arith)) r)
-
-pub bare_out : (bs : List ℕ) (z : ℤ) → (1 ≤ length bs → get_or bs 0 0 ≡ 45 → ⊥) → Reads bs z → Bare bs z
-bare_out [] z n r = absurd r
-bare_out (c ∷ cs) z n r = subst (λ b. MatchBool b (Minus cs z) (Bare (c ∷ cs) z)) (ne_eqb c 45 (n (omega arith))) r
+-- what the digits before place i make is small
+pub so_far : (bs : List ℕ) (i n : ℕ) → i < length bs → length bs ≤ most → (n ≡ value (take i bs)) × AllBelowBase 16 (map hex_value (take i bs)) → n < 16 ^ most
+so_far bs i n lt few h = omega (arith, h.0, under_lt (take i bs) (rw length-take (omega arith)) h.1)
 
 pub bare_in : (bs : List ℕ) (z : ℤ) → (1 ≤ length bs → get_or bs 0 0 ≡ 45 → ⊥) → Bare bs z → Reads bs z
 bare_in [] z n r = absurd (omega (arith, r.0.some))
 bare_in (c ∷ cs) z n r = subst (λ b. MatchBool b (Minus cs z) (Bare (c ∷ cs) z)) (sym (ne_eqb c 45 (n (omega arith)))) r
-
-zero_or : (n : ℕ) → (n ≡ 0) ⊎ (0 < n)
-zero_or zero = inl refl
-zero_or (suc n) = inr (omega arith)
-
-pub lean_of : (bs : List ℕ) → ((1 < length bs) × (hex_value (get_or bs 0 0) ≡ 0) → ⊥) → 1 < length bs → 0 < hex_value (get_or bs 0 0)
-lean_of bs none more = ⊎_elim (λ e. absurd (none (more, e))) (λ h. h) (zero_or (hex_value (get_or bs 0 0)))
-
--- what a minus makes of a number, for a reader of the bytes behind it
-pub behind_minus : (bs : List ℕ) → 1 ≤ length bs → get_or bs 0 0 ≡ 45 → (n : ℕ) → Counts (behind bs) n → (r : Option ℤ) → MatchOption r (n ≡ 0) (λ z. (0 < n) × (z ≡ neg_ℤ (pos n))) → MatchOption r ((z : ℤ) → Reads bs z → ⊥) (λ z. Reads bs z)
-behind_minus bs h e n p (Some z) q = minus_in bs z h e (p.0, omega (arith, p.1, q.0), q.1 ∙ ap (λ k. neg_ℤ (pos k)) p.1)
-behind_minus bs h e n p None q = λ z r. omega (arith, (minus_out bs z e r).1, p.1, q)
 
 -- a number that is read can be held
 pub fits : (n : ℕ) → n < 16 ^ most → SFits w64 (pos n)

@@ -5,7 +5,7 @@ use Rattle.std.specs.Int.Digits.{digits_of, number_from_digits, AllBelowBase}
 use Rattle.std.proofs.lemmas.Int.Digits.{number_digits_of, length-digits_of-le, length-digits_of_step, all_below_base_digits_of, first_digits_of}
 use Rattle.std.proofs.ByRecursion.{All-get_or}
 use Rattle.std.proofs.lemmas.List.{get_or-map}
-use Rattle.numerals.specs.Numeral.{most, Counts, Writable, hex_value, hex_digit, value, hex, Plain, Reads, written}
+use Rattle.numerals.specs.Numeral.{most, Counts, Writable, hex_value, hex_digit, value, hex, Plain, Bare, Minus, Reads, written}
 use Rattle.numerals.proofs.Digits.{value_lt, bare_in}
 use Rattle.numerals.proofs.Overwriting.{hex_is, hex_zero}
 
@@ -69,12 +69,6 @@ counts_are_read bs n h = bare_in bs (pos n) (no_minus_plain bs h.0) (h.0, ap pos
 abs_minus : (n : ℕ) → nat_abs (neg_ℤ (pos n)) ≡ n
 abs_minus zero = refl
 abs_minus (suc n) = refl
-
-abbrev Minus : List ℕ → ℤ → Type 0
-Minus cs z = Plain cs × (0 < value cs) × (z ≡ neg_ℤ (pos (value cs)))
-
-abbrev Bare : List ℕ → ℤ → Type 0
-Bare bs z = Plain bs × (z ≡ pos (value bs))
 
 one_of : (b : Bool) (c : ℕ) (cs : List ℕ) (y z : ℤ) → MatchBool b (Minus cs y) (Bare (c ∷ cs) y) → MatchBool b (Minus cs z) (Bare (c ∷ cs) z) → (y ≡ z) × Writable z
 one_of true c cs y z p q = (p.2 ∙ sym q.2, omega (arith, ap nat_abs q.2, abs_minus (value cs), value_lt cs q.0))

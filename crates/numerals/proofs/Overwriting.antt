@@ -6,7 +6,7 @@ use lib.Seq.{drop-append-add}
 use Rattle.std.specs.Int.Digits.{digits_of}
 use Rattle.std.proofs.lemmas.Int.Digits.{digits_of_step, length-digits_of-le}
 use Rattle.std.proofs.lemmas.Bool.{cond-false}
-use Rattle.std.proofs.lemmas.List.{map_push, length_push, set_split, set_at, drop_more, length-drop}
+use Rattle.std.proofs.lemmas.List.{map_push, length_push, set_split, set_at, drop_more}
 use lib.Signed.{lt_z}
 use Rattle.numerals.specs.Numeral.{hex_digit, hex, written}
 use Rattle.numerals.specs.Overwrite.{overwrite}
@@ -37,11 +37,6 @@ module _ (s : List ℕ) (at : ℕ) where
   pub overwrite_one : (v : ℕ) → at < length s → set s at v ≡ overwrite s at (v ∷ [])
   unfolding overwrite
   overwrite_one v h = let e : suc at ≡ at + 1 = omega arith in set_split s at v h ∙ ap (λ n. take at s ++ (v ∷ drop n s)) e
-
-  pub length_overwrite : (xs : List ℕ) → at + length xs ≤ length s → length (overwrite s at xs) ≡ length s
-  unfolding overwrite
-  length_overwrite xs h =
-      simp (length-append, length-drop) (omega (arith, length-take-le at s (omega arith)))
 
   pub overwrite_more : (xs : List ℕ) (v : ℕ) → at + length xs < length s → set (overwrite s at xs) (at + length xs) v ≡ overwrite s at (xs ++ (v ∷ []))
   unfolding overwrite
@@ -87,16 +82,12 @@ pub record Signs (s : List ℕ) (at : ℕ) (out : List ℕ) (start : ℕ) (x : �
   pub start_is : start ≡ at + length sign
   pub whole : sign ++ hex (nat_abs x) ≡ written x
 
-module _ (s : List ℕ) (at : ℕ) (out : List ℕ) (start : ℕ) (x : ℤ) (g : Signs s at out start x) (n end : ℕ) where
-  pub signed_end : n ≡ nat_abs x → end ≡ start + length (hex n) → end ≡ at + length (written x)
-  signed_end m e =
-      omega (arith, g.start_is, ap (λ k. length (hex k)) m, ap length g.whole, length-append g.sign (hex (nat_abs x)))
-
-  pub signed_after : (last : List ℕ) → n ≡ nat_abs x → last ≡ overwrite out start (hex n) → at + length (written x) ≤ length s → last ≡ overwrite s at (written x)
-  signed_after last m o room =
-      let long = ap length g.whole in
-      let parts = length-append g.sign (hex (nat_abs x)) in
-      o ∙ (λ i. overwrite (g.out_is i) (g.start_is i) (hex (m i))) ∙ overwrite_twice s at g.sign (hex (nat_abs x)) (omega arith) ∙ ap (overwrite s at) g.whole
+-- the digits behind the sign are the number
+pub signed_after : (s : List ℕ) (at : ℕ) (out : List ℕ) (start : ℕ) (x : ℤ) → Signs s at out start x → (n : ℕ) (last : List ℕ) → n ≡ nat_abs x → last ≡ overwrite out start (hex n) → at + length (written x) ≤ length s → last ≡ overwrite s at (written x)
+signed_after s at out start x g n last m o room =
+    let long = ap length g.whole in
+    let parts = length-append g.sign (hex (nat_abs x)) in
+    o ∙ (λ i. overwrite (g.out_is i) (g.start_is i) (hex (m i))) ∙ overwrite_twice s at g.sign (hex (nat_abs x)) (omega arith) ∙ ap (overwrite s at) g.whole
 
 -- what is written of a number below 16 ^ k
 pub length_hex : (k n : ℕ) → 1 ≤ k → n < 16 ^ k → length (hex n) ≤ k

@@ -1,2 +1,3 @@
 pub mod Numeral
+pub mod Laws
 pub mod Overwrite

@@ -1,5 +1,6 @@
 -- Numerals: how a number is written, an optional minus and hexadecimal digits.
-use Rattle.std.specs.Prelude.{◌≡◌, ℕ, suc, ◌+◌, ◌^◌, ◌<◌, ◌≤◌, cond, List, [], ◌∷◌, map, length, ℤ, pos, negsuc, neg_ℤ, codes, MatchBool, ◌==◌, slice_index, unsigned_abs}
+use Rattle.std.specs.Prelude.{◌≡◌, ℕ, suc, ◌+◌, ◌^◌, ◌<◌, ◌≤◌, cond, List, [], ◌∷◌, map, length, ℤ, pos, negsuc, neg_ℤ, codes, MatchBool, ◌==◌, ◌≢◌, slice_index, unsigned_abs}
+use Rattle.std.specs.List.{AllByRecursion}
 use Rattle.std.specs.Int.Digits.{digits_of, number_from_digits, AllBelowBase}
 
 -- the most digits that a numeral has
@@ -38,11 +39,22 @@ pub record Plain (bs : List ℕ) : Type 0 where
 abbrev pub Counts : List ℕ → ℕ → Type 0
 Counts bs n = Plain bs × (n ≡ value bs)
 
--- the bytes denote z: behind a minus stands a number above 0
+-- the bytes denote z with no minus in front
+abbrev pub Bare : List ℕ → ℤ → Type 0
+Bare bs z = Plain bs × (z ≡ pos (value bs))
+
+-- the bytes denote z with a minus in front of them: they stand for a number above 0
+abbrev pub Minus : List ℕ → ℤ → Type 0
+Minus bs z = Plain bs × (0 < value bs) × (z ≡ neg_ℤ (pos (value bs)))
+
+-- the bytes denote z
 abbrev pub Reads : List ℕ → ℤ → Type 0
 Reads [] z = ⊥
-Reads (c ∷ cs) z =
-    MatchBool (c == 45) (Plain cs × (0 < value cs) × (z ≡ neg_ℤ (pos (value cs)))) (Plain (c ∷ cs) × (z ≡ pos (value (c ∷ cs))))
+Reads (c ∷ cs) z = MatchBool (c == 45) (Minus cs z) (Bare (c ∷ cs) z)
+
+-- no comma stands in the bytes
+abbrev pub NoComma : List ℕ → Type 0
+NoComma bs = AllByRecursion (λ c. c ≢ 44) bs
 
 -- the digits of a natural number
 unfoldable pub hex : ℕ → List ℕ

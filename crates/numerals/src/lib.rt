@@ -2,8 +2,8 @@
 
 #![tactic(auto)]
 
-ghost use Rattle.std.specs.Prelude.{◌≡◌, ℕ, ◌+◌, ◌^◌, ◌<◌, ◌≤◌, length, ℤ, pos, neg_ℤ, Decides, MatchOption, slice_index};
-ghost use Rattle.numerals.specs.Numeral.{most, hex_value, Counts, Reads, hex, hex_digit, written, ReadAsWritten, OneNumber, CountsAreRead};
+ghost use Rattle.std.specs.Prelude.{◌≡◌, ℕ, ◌+◌, ◌^◌, ◌<◌, ◌≤◌, length, ℤ, pos, neg_ℤ, List, Decides, MatchOption, slice_index};
+ghost use Rattle.numerals.specs.Numeral.{most, hex_value, Counts, Reads, NoComma, hex, hex_digit, written, ReadAsWritten, OneNumber, CountsAreRead};
 ghost use Rattle.numerals.specs.Overwrite.{overwrite};
 
 // The most digits of a numeral.
@@ -24,7 +24,7 @@ fn digit(b: u8) -> Option<u8>
 fn needless_zero(bs: &[u8]) -> bool
     ensures { Decides result ((1 < length bs.now) × (hex_value (slice_index bs.now 0) ≡ 0)) }
 {
-    bs.len() > 1 && bs[0] == b'0'
+    matches!(bs, [b'0', _, ..])
 }
 
 // The number that the bytes denote, with no minus allowed.
@@ -36,10 +36,7 @@ pub fn natural(bs: &[u8]) -> Option<u64>
     }
     let mut n = 0u64;
     for b in bs {
-        let Some(d) = digit(*b) else {
-            return None;
-        };
-        n = n * 16 + u64::from(d);
+        n = n * 16 + u64::from(digit(*b)?);
     }
     Some(n)
 }
@@ -57,18 +54,53 @@ pub fn integer(bs: &[u8]) -> Option<i64>
     ensures { MatchOption result ((z : ℤ) → Reads bs.now z → ⊥) (λ z. Reads bs.now z) }
 {
     match bs {
-        [b'-', rest @ ..] => {
-            let Some(n) = natural(rest) else {
-                return None;
-            };
-            opposite(n)
-        }
-        _ => {
-            let Some(n) = natural(bs) else {
-                return None;
-            };
-            Some(n as i64)
-        }
+        [b'-', rest @ ..] => opposite(natural(rest)?),
+        _ => Some(natural(bs)? as i64),
+    }
+}
+
+// A type of numbers that bytes may denote.
+pub trait Numeral: Copy {
+    ghost denotes: { List ℕ → Self → Type 0 };
+
+    // A proof that bytes denote a number is like any other.
+    ghost once: { (bs : List ℕ) (x : Self) → IsProp (denotes bs x) };
+
+    // The number that the bytes denote.
+    fn read(bs: &[u8]) -> Option<Self>
+        ensures { MatchOption result ((x : Self) → denotes bs.now x → ⊥) (λ x. denotes bs.now x) };
+
+    // A comma parts numbers.
+    ghost apart: { (bs : List ℕ) (x : Self) → denotes bs x → NoComma bs };
+}
+
+// Numbers with no minus.
+impl Numeral for u64 {
+    ghost use Rattle.numerals.specs.Laws.{counts_once, counts_apart};
+
+    ghost denotes = { Counts };
+
+    ghost once = { counts_once };
+
+    ghost apart = { counts_apart };
+
+    fn read(bs: &[u8]) -> Option<u64> {
+        natural(bs)
+    }
+}
+
+// Numbers with a minus allowed.
+impl Numeral for i64 {
+    ghost use Rattle.numerals.specs.Laws.{reads_once, reads_apart};
+
+    ghost denotes = { Reads };
+
+    ghost once = { reads_once };
+
+    ghost apart = { reads_apart };
+
+    fn read(bs: &[u8]) -> Option<i64> {
+        integer(bs)
     }
 }
 
@@ -79,6 +111,8 @@ fn letter(d: u8) -> u8
 {
     if d < 10 { b'0' + d } else { b'a' + (d - 10) }
 }
+
+// The functions that write take the caller's buffer and a place in it: memory is fixed, and of a buffer that a struct holds nothing is known after a call.
 
 // Writes the digits of n from place `at` on, and tells the place after them.
 fn write_digits(out: &mut [u8], at: usize, n: u64) -> usize

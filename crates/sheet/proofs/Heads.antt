@@ -1,13 +1,15 @@
 -- A line's letter and its comma.
-use Rattle.std.proofs.Common.{◌≡◌, ℕ, ◌+◌, ◌-◌, ◌≤◌, true, false, List, [], ◌∷◌, ◌++◌, length, get_or, take, drop, Ok, Err, Result, sym, refl, ap, ◌∙◌, subst, append_assoc, arith, length-append, MatchResult}
+use Rattle.std.proofs.Common.{◌≡◌, ℕ, ◌+◌, ◌-◌, ◌≤◌, List, [], ◌∷◌, ◌++◌, length, get_or, take, drop, Some, None, Option, sym, refl, ◌∙◌, subst, append_assoc, arith, length-append, MatchOption, MatchResult}
 use Rattle.std.proofs.lemmas.Slice.{between_to_end}
-use Rattle.refusals.specs.declared.Refusal.{Refusal}
+use Rattle.std.specs.List.{AllByRecursion}
+use Rattle.std.specs.Option.{ok_or}
 use Rattle.refusals.specs.declared.Refusal.TheVariants as refusal
+use Rattle.numerals.specs.Numeral.{Counts}
 use Rattle.sheet.specs.declared.field.Field.{Field}
 use Rattle.sheet.specs.declared.line.System.{System as Name}
 use Rattle.sheet.specs.declared.line.Line.{Line}
 use Rattle.sheet.specs.declared.line.Line.TheVariants.{System, Width, Put, Take, Check, Load}
-use Rattle.sheet.specs.Shape.{Parts, name_of, Named, head_of, Body, Shape}
+use Rattle.sheet.specs.Shape.{IsNumber, Parts, name_of, Named, head_of, Body, Shape}
 use Rattle.sheet.proofs.Commas.{name_length}
 
 module _ (p k : ℕ) (t : List ℕ) where
@@ -16,7 +18,7 @@ module _ (p k : ℕ) (t : List ℕ) where
       let long = length-append (name_of s) (44 ∷ []) in
       let size = name_length s in
       let place : p + 2 + 3 ≡ p + length (head_of (System s m r g)) = omega arith in
-      (u, (λ j. i j ∷ 44 ∷ (e ∙ sym (append_assoc (name_of s) (44 ∷ []) u)) j), subst (λ n. Parts false n u (m ∷ r ∷ g ∷ [])) place h)
+      (u, (λ j. i j ∷ 44 ∷ (e ∙ sym (append_assoc (name_of s) (44 ∷ []) u)) j), subst (λ n. Parts n u (m.field ∷ r.field ∷ g.field ∷ [])) place h)
   body_in (Width w) (i, h) = (t, (λ j. i j ∷ 44 ∷ t), h)
   body_in (Put x y) (i, h) = (t, (λ j. i j ∷ 44 ∷ t), h)
   body_in (Take x y) (i, h) = (t, (λ j. i j ∷ 44 ∷ t), h)
@@ -30,55 +32,30 @@ module _ (p k : ℕ) (t : List ℕ) where
       let place : p + length (head_of (System s m r g)) ≡ p + 2 + 3 = omega arith in
       let i : k ≡ 83 = cc in
       let tail : t ≡ name_of s ++ (44 ∷ []) ++ u = cc in
-      (i, (u, tail ∙ append_assoc (name_of s) (44 ∷ []) u, subst (λ n. Parts false n u (m ∷ r ∷ g ∷ [])) place h))
-  body_out (Width w) (u, e, h) = ((cc), subst (λ l. Parts false (p + 2) l (w ∷ [])) (cc) h)
-  body_out (Put x y) (u, e, h) = ((cc), subst (λ l. Parts true (p + 2) l (x ∷ y ∷ [])) (cc) h)
-  body_out (Take x y) (u, e, h) = ((cc), subst (λ l. Parts true (p + 2) l (x ∷ y ∷ [])) (cc) h)
+      (i, (u, tail ∙ append_assoc (name_of s) (44 ∷ []) u, subst (λ n. Parts n u (m.field ∷ r.field ∷ g.field ∷ [])) place h))
+  body_out (Width w) (u, e, h) = ((cc), subst (λ l. Parts (p + 2) l (w.field ∷ [])) (cc) h)
+  body_out (Put x y) (u, e, h) = ((cc), subst (λ l. Parts (p + 2) l (x.field ∷ y.field ∷ [])) (cc) h)
+  body_out (Take x y) (u, e, h) = ((cc), subst (λ l. Parts (p + 2) l (x.field ∷ y.field ∷ [])) (cc) h)
   body_out Check (u, e, h) = let no : ◌≡◌ {A = ℕ} 0 1 = cc h.0 in omega arith
-  body_out (Load x y) (u, e, h) = ((cc), subst (λ l. Parts true (p + 2) l (x ∷ y ∷ [])) (cc) h)
+  body_out (Load x y) (u, e, h) = ((cc), subst (λ l. Parts (p + 2) l (x.field ∷ y.field ∷ [])) (cc) h)
 
-abbrev Answer : (Line → Type 0) → Result Line Refusal → Type 0
-Answer S r = MatchResult r S (λ e. (e ≡ refusal.Line) × ((l : Line) → S l → ⊥))
-
--- what is read behind a letter and a comma is the line
-pub with_head : (p k : ℕ) (s : List ℕ) (r : Result Line Refusal) → 2 ≤ length s → k ≡ get_or s 0 0 → get_or s 1 0 ≡ 44 → Answer (Body k (p + 2) (take (length s - 2) (drop 2 s))) r → Answer (Shape p s) r
-with_head p k [] r h i e b = absurd (omega arith)
-with_head p k (x ∷ []) r h i e b = absurd (omega arith)
-with_head p k (x ∷ y ∷ t) (Ok l) h i e b =
+-- what is read behind a letter and a comma is the line, and where nothing is, the line is refused
+pub with_head : (p k : ℕ) (s : List ℕ) (o : Option Line) → 2 ≤ length s → k ≡ get_or s 0 0 → get_or s 1 0 ≡ 44 → MatchOption o ((l : Line) → Body k (p + 2) (take (length s - 2) (drop 2 s)) l → ⊥) (λ l. Body k (p + 2) (take (length s - 2) (drop 2 s)) l) → MatchResult (ok_or o refusal.Line) (λ l. Shape p s l) (λ e. (e ≡ refusal.Line) × ((l : Line) → Shape p s l → ⊥))
+with_head p k [] o h i e b = absurd (omega arith)
+with_head p k (x ∷ []) o h i e b = absurd (omega arith)
+with_head p k (x ∷ y ∷ t) (Some l) h i e b =
     let rest = between_to_end (x ∷ y ∷ t) 2 (length (x ∷ y ∷ t)) (omega arith) in
     subst (λ z. Shape p z l) (λ j. i j ∷ sym e j ∷ rest j) (body_in p k _ l b)
-with_head p k (x ∷ y ∷ t) (Err q) h i e b =
+with_head p k (x ∷ y ∷ t) None h i e b =
     let rest = between_to_end (x ∷ y ∷ t) 2 (length (x ∷ y ∷ t)) (omega arith) in
-    (b.0, λ l w. b.1 l (body_out p k _ l (subst (λ z. Shape p z l) (λ j. sym i j ∷ e j ∷ sym rest j) w)))
+    (refl, λ l w. b l (body_out p k _ l (subst (λ z. Shape p z l) (λ j. sym i j ∷ e j ∷ sym rest j) w)))
 
-second : (s : List ℕ) (x : ℕ) (u : List ℕ) → s ≡ x ∷ 44 ∷ u → (2 ≤ length s → get_or s 1 0 ≡ 44 → ⊥) → ⊥
-second s x u e n = n (omega (arith, ap length e)) (ap (λ l. get_or l 1 0) e)
-
--- no line but a check has another shape
-pub no_shape : (p : ℕ) (s : List ℕ) → (s ≡ 67 ∷ [] → ⊥) → (2 ≤ length s → get_or s 1 0 ≡ 44 → ⊥) → (l : Line) → Shape p s l → ⊥
-no_shape p s c n (System d m r g) (u, e, h) = second s 83 _ e n
-no_shape p s c n (Width w) (u, e, h) = second s 87 _ e n
-no_shape p s c n (Put x y) (u, e, h) = second s 68 _ e n
-no_shape p s c n (Take x y) (u, e, h) = second s 88 _ e n
-no_shape p s c n Check (u, e, h) = c (e ∙ ap (λ l. 67 ∷ l) h.0)
-no_shape p s c n (Load x y) (u, e, h) = second s 90 _ e n
-
-pub check_shape : (p : ℕ) (s : List ℕ) → s ≡ 67 ∷ [] → Shape p s Check
-check_shape p s e = ([], e, (refl, tt, tt))
-
--- what a letter rules out
-pub no_system : (k p : ℕ) (t : List ℕ) → k ≡ 83 → ((s : Name) (m r g : Field) → Named p t s m r g → ⊥) → (l : Line) → Body k p t l → ⊥
-no_system k p t e n (System s m r g) h = n s m r g h.1
-no_system k p t e n (Width w) h = omega (arith, h.0)
-no_system k p t e n (Put x y) h = omega (arith, h.0)
-no_system k p t e n (Take x y) h = omega (arith, h.0)
-no_system k p t e n Check h = h
-no_system k p t e n (Load x y) h = omega (arith, h.0)
-
-pub no_width : (k p : ℕ) (t : List ℕ) → k ≡ 87 → ((w : Field) → Parts false p t (w ∷ []) → ⊥) → (l : Line) → Body k p t l → ⊥
-no_width k p t e n (System s m r g) h = omega (arith, h.0)
-no_width k p t e n (Width w) h = n w h.1
-no_width k p t e n (Put x y) h = omega (arith, h.0)
-no_width k p t e n (Take x y) h = omega (arith, h.0)
-no_width k p t e n Check h = h
-no_width k p t e n (Load x y) h = omega (arith, h.0)
+-- what is no system's name with its numbers is the body of no system's line
+pub no_system : (p : ℕ) (t : List ℕ) → ((s : Name) (m r g : Field) → Named p t s (m ∷ r ∷ g ∷ []) → AllByRecursion (IsNumber Counts) (m ∷ r ∷ g ∷ []) → ⊥) → (l : Line) → Body 83 p t l → ⊥
+no_system p t n (System s m r g) h =
+    n s m.field r.field g.field h.1 ((m.value, m.denotes), ((r.value, r.denotes), ((g.value, g.denotes), tt)))
+no_system p t n (Width w) h = omega (arith, h.0)
+no_system p t n (Put x y) h = omega (arith, h.0)
+no_system p t n (Take x y) h = omega (arith, h.0)
+no_system p t n Check h = h
+no_system p t n (Load x y) h = omega (arith, h.0)

@@ -1,12 +1,15 @@
 -- The same bytes are no two different lines.
-use Rattle.std.proofs.Common.{◌≡◌, ℕ, zero, suc, ◌<◌, true, false, List, [], ◌∷◌, ◌++◌, length, sym, ap, ◌∙◌, append_assoc, arith}
+use Rattle.std.proofs.Common.{◌≡◌, ℕ, zero, suc, ◌<◌, List, [], ◌∷◌, ◌++◌, length, ℤ, sym, ap, ◌∙◌, append_assoc, arith}
 use Rattle.std.specs.List.{AllByRecursion}
+use Rattle.numerals.specs.Laws.{counts_apart, reads_apart}
+use Rattle.numerals.specs.Numeral.{Counts, Reads}
+use Rattle.sheet.specs.declared.field.Field.{Field}
 use Rattle.sheet.specs.declared.line.Line.{Line}
 use Rattle.sheet.specs.declared.line.Line.TheVariants.{System, Width, Put, Take, Check, Load}
-use Rattle.sheet.specs.Parting.{Free}
+use Rattle.sheet.specs.Parting.{bytes, Free}
 use Rattle.sheet.specs.Shape.{name_of, parts_of, Shape}
 use Rattle.sheet.proofs.Splits.{same_parts, not_free}
-use Rattle.sheet.proofs.Commas.{number_free, name_free}
+use Rattle.sheet.proofs.Commas.{apart_free, name_free}
 
 -- parts with commas between them
 abbrev commas : List (List ℕ) → List ℕ
@@ -38,17 +41,23 @@ one_free : (x : ℕ) → (x ≡ 44 → ⊥) → Free 44 (x ∷ [])
 one_free x n zero lt e = n e
 one_free x n (suc k) lt e = omega arith
 
+counts_free : (f : Field) (n : ℕ) → Counts (bytes f) n → Free 44 (bytes f)
+counts_free f n h = apart_free (bytes f) (counts_apart (bytes f) n h)
+
+reads_free : (f : Field) (z : ℤ) → Reads (bytes f) z → Free 44 (bytes f)
+reads_free f z h = apart_free (bytes f) (reads_apart (bytes f) z h)
+
 line_free : (p : ℕ) (s : List ℕ) (l : Line) → Shape p s l → AllByRecursion (Free 44) (parts_of l)
 line_free p s (System d m r g) (u, e, h) =
-    (one_free 83 (λ i. omega arith), (name_free d, (number_free false m h.2.0, (number_free false r h.2.1.0, (number_free false g h.2.1.1.0, tt)))))
-line_free p s (Width w) (u, e, h) = (one_free 87 (λ i. omega arith), (number_free false w h.2.0, tt))
+    (one_free 83 (λ i. omega arith), (name_free d, (counts_free m.field m.value m.denotes, (counts_free r.field r.value r.denotes, (counts_free g.field g.value g.denotes, tt)))))
+line_free p s (Width w) (u, e, h) = (one_free 87 (λ i. omega arith), (counts_free w.field w.value w.denotes, tt))
 line_free p s (Put x y) (u, e, h) =
-    (one_free 68 (λ i. omega arith), (number_free true x h.2.0, (number_free true y h.2.1.0, tt)))
+    (one_free 68 (λ i. omega arith), (reads_free x.field x.value x.denotes, (reads_free y.field y.value y.denotes, tt)))
 line_free p s (Take x y) (u, e, h) =
-    (one_free 88 (λ i. omega arith), (number_free true x h.2.0, (number_free true y h.2.1.0, tt)))
+    (one_free 88 (λ i. omega arith), (reads_free x.field x.value x.denotes, (reads_free y.field y.value y.denotes, tt)))
 line_free p s Check (u, e, h) = (one_free 67 (λ i. omega arith), tt)
 line_free p s (Load x y) (u, e, h) =
-    (one_free 90 (λ i. omega arith), (number_free true x h.2.0, (number_free true y h.2.1.0, tt)))
+    (one_free 90 (λ i. omega arith), (reads_free x.field x.value x.denotes, (reads_free y.field y.value y.denotes, tt)))
 
 some_parts : (l : Line) → 0 < length (parts_of l)
 some_parts (System d m r g) = omega arith

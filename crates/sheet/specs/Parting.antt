@@ -1,15 +1,11 @@
 -- How a sheet is cut into lines, and a line into fields.
-use Rattle.std.specs.Prelude.{◌≡◌, ℕ, ◌+◌, ◌^◌, ◌<◌, List, [], ◌∷◌, ◌++◌, length, ◌≢◌, slice_index}
+use Rattle.std.specs.Prelude.{◌≡◌, ℕ, ◌+◌, ◌<◌, List, [], ◌∷◌, ◌++◌, length, Some, None, Option, Ok, Err, Result, ◌≢◌, slice_index}
+use Rattle.refusals.specs.declared.Refusal.{Refusal}
+use Rattle.refusals.specs.declared.Refusal.TheVariants as refusal
 use Rattle.sheet.specs.declared.field.Field.{Field}
-use Rattle.sheet.specs.declared.cutting.Cut.{Cut}
-use Rattle.sheet.specs.declared.cutting.Cut.TheVariants.{Finished, Unfinished, End}
 
 abbrev pub bytes : Field → List ℕ
 bytes f = f.text.now
-
--- f ends at a place that can be told
-abbrev pub Within : Field → Type 0
-Within f = f.place + length (bytes f) < 2 ^ 64
 
 -- the byte b does not stand in s
 abbrev pub Free : ℕ → List ℕ → Type 0
@@ -23,11 +19,11 @@ pub record Split (b : ℕ) (f a rest : Field) : Type 0 where
   pub next : rest.place ≡ f.place + (length (bytes a) + 1)
   pub ends : rest.place + length (bytes rest) ≡ f.place + length (bytes f)
 
--- what is cut from f: a line that byte 10 ends, or a last one that no byte ends, or nothing
-abbrev pub Cuts : Field → Cut → Type 0
-Cuts f (Finished line rest) = Split 10 f line rest
-Cuts f Unfinished = (bytes f ≢ []) × Free 10 (bytes f)
-Cuts f End = bytes f ≡ []
+-- what is cut from f: a line that byte 10 ends, with what is behind it, or nothing; a last line that no byte ends is refused
+abbrev pub Cuts : Field → Result (Option (Field × Field)) Refusal → Type 0
+Cuts f (Ok (Some q)) = Split 10 f q.0 q.1
+Cuts f (Ok None) = bytes f ≡ []
+Cuts f (Err why) = (why ≡ refusal.Line) × (bytes f ≢ []) × Free 10 (bytes f)
 
 -- the lines that are cut from f one behind the other, and what is left
 abbrev pub Lines : Field → List Field → Field → Type 0

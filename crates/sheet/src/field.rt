@@ -1,18 +1,23 @@
-ghost use Rattle.std.specs.Prelude.{◌≡◌, ℕ, ℤ, pos};
-ghost use Rattle.numerals.specs.Numeral.{Counts, Reads};
-ghost use Rattle.sheet.specs.Parting.{bytes, Within};
+// The parts of a sheet.
+
+ghost use Rattle.std.specs.Prelude.{ℕ, ◌+◌, ◌^◌, ◌<◌, length};
 
 // A part of a sheet, and the place of its first byte in the sheet.
-#[derive(Clone, Copy)]
+#[derive(Clone, Copy, Debug, PartialEq, Eq)]
 pub struct Field<'a> {
     pub text: &'a [u8],
     pub place: usize,
+    // It ends at a place that can be told.
+    ghost within: { place + length text.now < 2 ^ 64 },
 }
 
 impl<'a> Field<'a> {
+    ghost use Rattle.std.specs.Prelude.{◌≡◌, MatchOption};
+    ghost use Rattle.sheet.specs.Parting.{bytes, Free, Split};
+
     // The whole sheet.
     pub fn whole(sheet: &'a [u8]) -> Field<'a>
-        ensures { (bytes result ≡ sheet.now) × (result.place ≡ 0) × Within result }
+        ensures { (bytes result ≡ sheet.now) × (result.place ≡ 0) }
     {
         Field {
             text: sheet,
@@ -20,25 +25,19 @@ impl<'a> Field<'a> {
         }
     }
 
-    // The number that the field denotes, and 0 if it denotes none.
-    pub fn integer(self) -> i64
-        ensures read { (z : ℤ) → Reads (bytes self.entry) z → result ≡ z }
-        ensures none { ((z : ℤ) → Reads (bytes self.entry) z → ⊥) → result ≡ pos 0 }
+    // The part before the first such byte, and the part behind it.
+    pub fn split(self, byte: u8) -> Option<(Field<'a>, Field<'a>)>
+        ensures { MatchOption result (Free byte (bytes self.entry)) (λ q. Split byte self.entry q.0 q.1) }
     {
-        match numerals::integer(self.text) {
-            Some(z) => z,
-            None => 0,
-        }
-    }
-
-    // The number that the field denotes with no minus allowed, and 0 if it denotes none.
-    pub fn natural(self) -> u64
-        ensures read { (n : ℕ) → Counts (bytes self.entry) n → result ≡ n }
-        ensures none { ((n : ℕ) → Counts (bytes self.entry) n → ⊥) → result ≡ 0 }
-    {
-        match numerals::natural(self.text) {
-            Some(n) => n,
-            None => 0,
-        }
+        let k = self.text.iter().position(|b| *b == byte)?;
+        let first = Field {
+            text: &self.text[..k],
+            place: self.place,
+        };
+        let rest = Field {
+            text: &self.text[k + 1..],
+            place: self.place + k + 1,
+        };
+        Some((first, rest))
     }
 }

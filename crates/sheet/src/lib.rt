@@ -5,4 +5,5 @@
 pub mod cutting;
 pub mod field;
 pub mod line;
+pub mod number;
 pub mod reading;

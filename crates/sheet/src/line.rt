@@ -1,7 +1,7 @@
-use crate::field::Field;
+use crate::number::Number;
 
 // The number systems that a sheet may name.
-#[derive(Clone, Copy)]
+#[derive(Clone, Copy, Debug, PartialEq, Eq)]
 pub enum System {
     Kp,
     Km,
@@ -9,13 +9,18 @@ pub enum System {
 }
 
 // A line of a sheet, with its number fields.
-#[derive(Clone, Copy)]
+#[derive(Clone, Copy, Debug, PartialEq, Eq)]
 pub enum Line<'a> {
     // The system, and the modulus, the root and the start of its residue engine.
-    System(System, Field<'a>, Field<'a>, Field<'a>),
-    Width(Field<'a>),
-    Put(Field<'a>, Field<'a>),
-    Take(Field<'a>, Field<'a>),
+    System {
+        system: System,
+        modulus: Number<'a, u64>,
+        root: Number<'a, u64>,
+        start: Number<'a, u64>,
+    },
+    Width(Number<'a, u64>),
+    Put(Number<'a, i64>, Number<'a, i64>),
+    Take(Number<'a, i64>, Number<'a, i64>),
     Check,
-    Load(Field<'a>, Field<'a>),
+    Load(Number<'a, i64>, Number<'a, i64>),
 }

@@ -5,21 +5,24 @@
 #[cfg(test)]
 mod tests {
     use refusals::Refusal;
-    use sheet::cutting::{Cut, next_line};
+    use sheet::cutting::next_line;
     use sheet::field::Field;
     use sheet::line::Line;
     use sheet::reading::read_line;
 
-    // What a line is: its letter, and the places of its number fields, or 0 for none.
-    fn told(text: &str) -> (char, usize, usize) {
-        match read_line(Field::whole(text.as_bytes())) {
-            Ok(Line::System(_, m, _, g)) => ('S', m.place, g.place),
-            Ok(Line::Width(w)) => ('W', w.place, 0),
-            Ok(Line::Put(x, y)) => ('D', x.place, y.place),
-            Ok(Line::Take(x, y)) => ('X', x.place, y.place),
-            Ok(Line::Check) => ('C', 0, 0),
-            Ok(Line::Load(x, y)) => ('Z', x.place, y.place),
-            Err(_) => ('N', 0, 0),
+    // The letter of a line, and the places of its first number field and of its last.
+    fn told(text: &str) -> Result<(char, Option<usize>, Option<usize>), Refusal> {
+        match read_line(Field::whole(text.as_bytes()))? {
+            Line::System { modulus, start, .. } => Ok((
+                'S',
+                Some(modulus.field.place),
+                Some(start.field.place),
+            )),
+            Line::Width(w) => Ok(('W', Some(w.field.place), None)),
+            Line::Put(x, y) => Ok(('D', Some(x.field.place), Some(y.field.place))),
+            Line::Take(x, y) => Ok(('X', Some(x.field.place), Some(y.field.place))),
+            Line::Check => Ok(('C', None, None)),
+            Line::Load(x, y) => Ok(('Z', Some(x.field.place), Some(y.field.place))),
         }
     }
 
@@ -43,22 +46,22 @@ mod tests {
 
     #[test]
     fn lines(rt: HostRuntime) {
-        let table: [(&str, (char, usize, usize)); 15] = [
-            ("S,kp,b,5,1", ('S', 5, 9)),
-            ("S,kq,b,5,1", ('N', 0, 0)),
-            ("S,g5,-b,5,1", ('N', 0, 0)),
-            ("W,2", ('W', 2, 0)),
-            ("W,-2", ('N', 0, 0)),
-            ("D,-ff,0", ('D', 2, 6)),
-            ("D,1,0,0", ('N', 0, 0)),
-            ("D,1", ('N', 0, 0)),
-            ("D1,0", ('N', 0, 0)),
-            ("X,1,1", ('X', 2, 4)),
-            ("C", ('C', 0, 0)),
-            ("C,", ('N', 0, 0)),
-            ("Z,9,0", ('Z', 2, 4)),
-            ("z,9,0", ('N', 0, 0)),
-            ("", ('N', 0, 0)),
+        let table: [(&str, Result<(char, Option<usize>, Option<usize>), Refusal>); 15] = [
+            ("S,kp,b,5,1", Ok(('S', Some(5), Some(9)))),
+            ("S,kq,b,5,1", Err(Refusal::Line)),
+            ("S,g5,-b,5,1", Err(Refusal::Line)),
+            ("W,2", Ok(('W', Some(2), None))),
+            ("W,-2", Err(Refusal::Line)),
+            ("D,-ff,0", Ok(('D', Some(2), Some(6)))),
+            ("D,1,0,0", Err(Refusal::Line)),
+            ("D,1", Err(Refusal::Line)),
+            ("D1,0", Err(Refusal::Line)),
+            ("X,1,1", Ok(('X', Some(2), Some(4)))),
+            ("C", Ok(('C', None, None))),
+            ("C,", Err(Refusal::Line)),
+            ("Z,9,0", Ok(('Z', Some(2), Some(4)))),
+            ("z,9,0", Err(Refusal::Line)),
+            ("", Err(Refusal::Line)),
         ];
         for (text, want) in table {
             assert_eq!(rt; told(text), want, "{}", text);
@@ -66,15 +69,29 @@ mod tests {
     }
 
     #[test]
+    fn values(rt: HostRuntime) {
+        let Ok(Line::Put(x, y)) = read_line(Field::whole(b"D,-ff,0")) else {
+            assert!(rt; false);
+            return;
+        };
+        assert_eq!(rt; (x.value, y.value), (-255, 0));
+        let Ok(Line::Width(w)) = read_line(Field::whole(b"W,1f")) else {
+            assert!(rt; false);
+            return;
+        };
+        assert_eq!(rt; w.value, 31);
+    }
+
+    #[test]
     fn cuts(rt: HostRuntime) {
-        let Cut::Finished(line, rest) = next_line(Field::whole(b"W,2\nC")) else {
+        let Ok(Some((line, rest))) = next_line(Field::whole(b"W,2\nC")) else {
             assert!(rt; false);
             return;
         };
         assert_eq!(rt; line.text, b"W,2".as_slice());
         assert_eq!(rt; rest.place, 4);
-        assert!(rt; matches!(next_line(rest), Cut::Unfinished));
-        assert!(rt; matches!(next_line(Field::whole(b"")), Cut::End));
+        assert_eq!(rt; next_line(rest), Err(Refusal::Line));
+        assert_eq!(rt; next_line(Field::whole(b"")), Ok(None));
     }
 
     #[test]

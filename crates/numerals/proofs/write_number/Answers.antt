@@ -1,11 +1,11 @@
 use Rattle.std.proofs.Common.{◌≡◌, [], ◌∷◌, nat_abs, sym, ap, ◌∙◌, add-zero, w64}
 use Rattle.std.proofs.lemmas.Int.{to_z-of_z}
-use Rattle.numerals.proofs.Overwriting.{overwrite_none, written_minus, written_bare, Signs, signed_end, signed_after}
+use Rattle.numerals.proofs.Overwriting.{overwrite_none, written_minus, written_bare, Signs, signed_after}
 use Rattle.numerals.proofs.write_number.Goals as goal
 use Rattle.numerals.proofs.write_number.Goals.{then-x-lt0, else-x-lt0}
 
-pub returns : goal.returns
-returns c =
+pub returns-clause-after : goal.returns-clause-after
+returns-clause-after c =
     let s = c.args.out.now in
     let at = c.args.at in
     let x = c.args.x in
@@ -16,7 +16,4 @@ returns c =
       | then-x-lt0 w ↦ record { sign = 45 ∷ []; out_is = w.out-is ∙ w.write_bytes-start.ensures.after; start_is = w.start-is ∙ w.write_bytes-start.ensures.end; whole = sym (written_minus x _ same w.if-x-lt0.true) }
       | else-x-lt0 w ↦ record { sign = []; out_is = w.out-is ∙ sym (overwrite_none s at); start_is = w.start-is ∙ sym (add-zero at); whole = sym (written_bare x _ same w.if-x-lt0.false) }
     ] in
-    record {
-      end = signed_end s at _ _ x sg _ _ mag c.write_digits.ensures.end;
-      after = signed_after s at _ _ x sg _ c.write_digits.result _ mag c.write_digits.ensures.after c.requires;
-    }
+    signed_after s at _ _ x sg _ _ mag c.write_digits.ensures.after c.requires

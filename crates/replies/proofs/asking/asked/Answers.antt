@@ -1,11 +1,10 @@
-use Rattle.sheet.specs.Parting.{bytes}
-use Rattle.replies.proofs.Asked.{asked_by}
+use Rattle.replies.proofs.Asked.{asked_by, read_as_none}
 use Rattle.replies.proofs.asking.asked.Goals as goal
 
-pub returns-in-Ok : goal.returns-in-Ok
-returns-in-Ok c =
-    let f = c.args.f in
-    asked_by f c.in-Ok.line c.in-Ok.ensures c.call_of.result (c.call_of.ensures f.place (bytes f) c.in-Ok.ensures)
+pub returns-in_err-ok : goal.returns-in_err-ok
+returns-in_err-ok c =
+    rw c.from_residual.ensures (λ d q. read_as_none c.args.f c.read_line.result c.read_line.ensures c.in_err-ok.ensures.value q.0 q.1)
 
-pub returns-in-Err : goal.returns-in-Err
-returns-in-Err c = λ x q. c.in-Err.ensures.1 q.0 q.1
+pub returns : goal.returns
+returns c =
+    asked_by c.args.f c.read_line.result c.in_ok-ok.field-0 c.read_line.ensures c.in_ok-ok.ensures.value c.call_of.result c.call_of.ensures

@@ -1,20 +1,16 @@
-use borrow.Author.Tests.{clash}
-use Rattle.std.proofs.Common.{[], refl}
-use Rattle.sheet.proofs.Commas.{parts_none, parts_one, parts_more, parts_less, one_number}
+use Rattle.std.proofs.Common.{[]}
+use Rattle.sheet.proofs.Commas.{parts_none, no_first, numbers_less, one_number}
 use Rattle.sheet.proofs.reading.pair.Goals as goal
 
-pub returns-in_default : goal.returns-in_default
-returns-in_default c a b = parts_none _ _ _ c.in_default.ensures a b []
+pub returns-in_err-x : goal.returns-in_err-x
+returns-in_err-x g c = rw c.from_residual.ensures (λ a b h. parts_none _ _ c.in_err-x.ensures a b [] h.0)
 
-pub returns-then-not-is_number : goal.returns-then-not-is_number
-returns-then-not-is_number c a b h =
-    clash (c.if-not-is_number.ensures.1 (parts_less c.args.signed _ _ _ c.in-Some.ensures a b [] h).0)
+pub returns-in_err-read : goal.returns-in_err-read
+returns-in_err-read g c =
+    rw c.from_residual-in_err-read.ensures (λ a b. no_first g.N.Numeral.denotes g.met.N.Numeral.apart _ _ _ c.in_ok-x.ensures c.in_err-read.ensures a b [])
 
-pub returns-then-not-is_number-2 : goal.returns-then-not-is_number-2
-returns-then-not-is_number-2 c a b h =
-    clash (c.if-not-is_number-2.ensures.1 (one_number c.args.signed _ _ b (parts_less c.args.signed _ _ _ c.in-Some.ensures a b [] h).1))
-
-pub returns : goal.returns
-returns c =
-    let signed = c.args.signed in
-    parts_more signed _ _ _ c.in-Some.ensures _ [] (c.if-not-is_number.ensures.0 refl) (parts_one signed c.in-Some.b (c.if-not-is_number-2.ensures.0 refl))
+pub returns-in_err-read-2 : goal.returns-in_err-read-2
+returns-in_err-read-2 g c =
+    rw c.from_residual-in_err-read-2.ensures (λ a b h.
+    let n = one_number g.N.Numeral.denotes g.met.N.Numeral.apart _ c.in_ok-x.y b (numbers_less g.N.Numeral.denotes g.met.N.Numeral.apart _ _ _ c.in_ok-x.ensures a b [] h).1 in
+    c.in_err-read-2.ensures n.0 n.1)

@@ -1,14 +1,15 @@
-use borrow.Author.Tests.{clash}
-use Rattle.std.proofs.Common.{false, [], ◌∷◌}
-use Rattle.sheet.proofs.Commas.{parts_none, parts_less}
+use Rattle.std.proofs.Common.{[], ◌∷◌}
+use Rattle.sheet.proofs.Commas.{parts_none, no_first, numbers_less}
 use Rattle.sheet.proofs.reading.triple.Goals as goal
 
-pub returns-in_default : goal.returns-in_default
-returns-in_default c x y z = parts_none false _ _ c.in_default.ensures x y (z ∷ [])
+pub returns-in_err-x : goal.returns-in_err-x
+returns-in_err-x g c = rw c.from_residual.ensures (λ x y z h. parts_none _ _ c.in_err-x.ensures x y (z ∷ []) h.0)
 
-pub returns-then-not-is_number : goal.returns-then-not-is_number
-returns-then-not-is_number c x y z h =
-    clash (c.if-not-is_number.ensures.1 (parts_less false _ _ _ c.in-Some.ensures x y (z ∷ []) h).0)
+pub returns-in_err-x-2 : goal.returns-in_err-x-2
+returns-in_err-x-2 g c =
+    rw c.from_residual-in_err-x-2.ensures (λ x y z. no_first g.N.Numeral.denotes g.met.N.Numeral.apart _ _ _ c.in_ok-x.ensures c.in_err-x-2.ensures x y (z ∷ []))
 
-pub returns-in_default-pair : goal.returns-in_default-pair
-returns-in_default-pair c x y z h = c.in_default-pair.ensures y z (parts_less false _ _ _ c.in-Some.ensures x y (z ∷ []) h).1
+pub returns-in_err-y : goal.returns-in_err-y
+returns-in_err-y g c =
+    rw c.from_residual-in_err-y.ensures (λ x y z h.
+    c.in_err-y.ensures y z (numbers_less g.N.Numeral.denotes g.met.N.Numeral.apart _ _ _ c.in_ok-x.ensures x y (z ∷ []) h).1)
