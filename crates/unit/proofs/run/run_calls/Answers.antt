@@ -1,9 +1,10 @@
 use Rattle.std.proofs.Common.{◌≡◌, ◌+◌, ◌<◌, min, [], ◌∷◌, ◌++◌, map, reverse, length, get_or, take, drop, set, sym, refl, ap, ◌∙◌, subst, arith, rules}
 use mathlib.Core.List.{reverse-append, map-append}
-use Rattle.std.proofs.lemmas.List.{get_or-take, take_more, take_more_set, drop-set-lt}
+use Rattle.std.proofs.lemmas.List.{get_or-take, length-take, take_more, take_more_set, drop-set-lt}
 use Rattle.rules.specs.Views.{new}
 use Rattle.rules.specs.Comes.{Comes, event}
 use Rattle.rules.specs.declared.calls.Call.{Call}
+use Rattle.rules.specs.declared.calls.Call.TheVariants.{Width}
 use Rattle.rules.specs.declared.calls.Event.{Event}
 use Rattle.rules.proofs.Keeps.{comes_throughout}
 use Rattle.rules.proofs.Logs.{next_drop}
@@ -24,16 +25,16 @@ loop-i-preserved g c =
     let calls = c.args.calls.now in
     let start = c.new-unit.result.engine in
     let n = c.min-n.result in
-    let call : Call = ? in
+    let call : Call = get_or (take n calls) i (Width 0) in
     let room : i < length log = search rules in
-    let within : i < n = ? in
-    let more : i < length calls = ? in
-    let at : call ≡ get_or calls i call = c.call-item.is ∙ get_or-take n calls i call within in
+    let within : i < n = omega (arith, c.loop-i-test.true, length-take n calls) in
+    let more : i < length calls = omega (arith, c.loop-i-test.true, length-take n calls) in
+    let at : call ≡ get_or calls i (Width 0) = get_or-take n calls i (Width 0) within in
     let made : Event = event call c.perform-answer.result c.standing.result in
     let items : take (i + 1) (set log i made) ≡ take i log ++ made ∷ [] = take_more_set log i made room in
     let back : reverse (take (i + 1) (set log i made)) ≡ made ∷ reverse (take i log) = ap reverse items ∙ reverse-append (take i log) (made ∷ []) in (
       subst (λ h. Comes k M start h (view g.S.Kind.Coordinate.value c.perform-answer.new.self)) (sym back) (view g.S.Kind.Coordinate.value c.loop-i.unit, inv.0, c.perform-answer.ensures.told, c.standing.ensures),
-      ap (map (λ (e : Event). e.call)) items ∙ map-append (λ (e : Event). e.call) (take i log) (made ∷ []) ∙ ap (λ l. l ++ call ∷ []) inv.1 ∙ ap (λ (d : Call). take i calls ++ d ∷ []) at ∙ sym (take_more calls i call more),
+      ap (map (λ (e : Event). e.call)) items ∙ map-append (λ (e : Event). e.call) (take i log) (made ∷ []) ∙ ap (λ l. l ++ call ∷ []) inv.1 ∙ ap (λ (d : Call). take i calls ++ d ∷ []) at ∙ sym (take_more calls i (Width 0) more),
       drop-set-lt (i + 1) log i made (omega arith) ∙ next_drop log c.args.log.now i inv.2,
       c.perform-answer.ensures.system ∙ inv.3,
     )
