@@ -2,13 +2,17 @@
 use Rattle.std.specs.Prelude.{◌≡◌, ◌⊎◌, ℤ, pos, Ok, Err, Result}
 use Rattle.refusals.specs.declared.Refusal.{Refusal}
 use Rattle.refusals.specs.declared.Refusal.TheVariants as refusal
-use Rattle.engine.specs.Meaning.{Meaning}
+use Rattle.engine.specs.Meaning.{Meaning, Machine}
 use Rattle.engine.specs.declared.Point.{Point}
 use Rattle.residue.specs.Residue.{at, residue, Modulus, Root}
 use Rattle.residue.specs.declared.ResidueEngine.{ResidueEngine}
 
 abbrev pub meaning_of : ResidueEngine → Meaning Point
-meaning_of e = residue e.t e.n (pos e.m) (pos e.r) (pos e.g)
+meaning_of e = residue e.ring.t e.ring.n (pos e.residues.modulus) (pos e.root) (pos e.start)
+
+-- residue engines, with what each means, its total and its current point
+abbrev pub residue_machine : Machine ResidueEngine Point
+residue_machine = record { meaning = meaning_of; total_of = λ e. at (pos e.total); current_of = λ e. at (pos e.current) }
 
 -- an engine of these numbers, its total zero and its current point the start point
 abbrev pub Restarted : ℤ → ℤ → ℤ → ℤ → ℤ → ResidueEngine → Type 0

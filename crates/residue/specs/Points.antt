@@ -1,6 +1,8 @@
 -- The points of a residue engine: their multiples, and that its meaning is lawful.
-use Rattle.std.specs.Prelude.{◌≡◌, ℕ, zero, suc, ◌+◌, ◌-◌, ◌*◌, ◌%◌, ◌<◌, ◌&&◌, T, ℤ, pos, negsuc, ◌-ℤ◌, ◌≤ℤ◌, ◌<ℤ◌, ◌==◌, int_lt, int_rem, unsigned_abs, refl}
-use Rattle.std.proofs.Common.{sym, subst, ◌∙◌, arith, mod-lt, mod-eq_of_lt, zero-mul, ltb→lt, lt→ltb, eqb→eq}
+use Rattle.std.specs.Prelude.{◌≡◌, ℕ, zero, suc, ◌+◌, ◌-◌, ◌*◌, ◌/◌, ◌%◌, ◌<◌, ◌&&◌, T, ℤ, pos, negsuc, ◌-ℤ◌, ◌*ℤ◌, ◌≤ℤ◌, ◌==◌, int_lt, int_rem, unsigned_abs, refl}
+use Rattle.std.specs.Int.{int_rem_euclid}
+use Rattle.std.proofs.Common.{sym, subst, ◌∙◌, arith, mod-lt, mod-eq_of_lt, zero-mul, ltb→lt, lt→ltb, eqb→eq, div-add-mod'}
+use Rattle.std.proofs.lemmas.Int.{int_rem_euclid_is}
 use Rattle.std.proofs.Math.Path.{ap}
 use Rattle.std.proofs.Math.Nat.{mod_self, mod-add-mod, add-mod-mod, zero-mod}
 use borrow.Author.Differences.{ints, up, down}
@@ -54,13 +56,13 @@ module _ (t n : ℤ) (m r g : ℕ) (modulus : Modulus (pos m)) where
   times_at (pos k) a = times_n_at k a
   times_at (negsuc k) a = ap M.opposite (times_n_at (suc k) a) ∙ opposite_at (suc k * a % m) (mod-lt (suc k * a) positive)
 
-  pub natural_times : (k : ℤ) (j a : ℕ) → pos 0 ≤ℤ k → j ≡ unsigned_abs k → at (pos (j * a % m)) ≡ times M k (at (pos a))
-  natural_times (pos k) j a h e = ap (λ (z : ℕ). at (pos (z * a % m))) e ∙ sym (times_at (pos k) a)
-  natural_times (negsuc k) j a h e = absurd (omega (arith, ints))
-
-  pub negative_times : (k : ℤ) (j a : ℕ) → k <ℤ pos 0 → j ≡ unsigned_abs k → at (pos ((m - j * a % m) % m)) ≡ times M k (at (pos a))
-  negative_times (pos k) j a h e = absurd (omega (arith, ints))
-  negative_times (negsuc k) j a h e = ap (λ (z : ℕ). at (pos ((m - z * a % m) % m))) e ∙ sym (times_at (negsuc k) a)
+  -- k times a point is the residue of the product
+  pub times_is : (k : ℤ) (a : ℕ) → times M k (at (pos a)) ≡ at (int_rem_euclid (k *ℤ pos a) (pos m))
+  times_is (pos k) a = times_at (pos k) a
+  times_is (negsuc k) a =
+      let split = div-add-mod' (suc k * a) m in
+      let small = mod-lt (suc k * a) positive in
+      times_at (negsuc k) a ∙ sym (ap at (int_rem_euclid_is (negsuc k *ℤ pos a) (pos m) m (suc k * a / m + 1) (m - suc k * a % m) positive refl (omega (arith, ints, split, small))))
 
   module _ (ring : InRing t n) (root : int_rem (at_root t n (pos r)) (pos m) ≡ pos 0) (start : g < m) where
     -- r² + n and t·r are one residue, each negative part on the other side

@@ -3,23 +3,30 @@
 #![tactic(auto)]
 
 ghost use Rattle.std.specs.Prelude.{◌≡◌, ◌<◌, pos, int_rem};
-ghost use Rattle.engine.specs.Rings.{InRing};
 ghost use Rattle.residue.specs.Residue.{at_root, Modulus};
 
 mod calls;
+mod making;
+mod reducing;
 
-// t and n, the modulus m, the root r, the start g, the total and the current point.
-#[derive(Clone, Copy)]
+use engine::Ring;
+
+// The residues modulo m: the numbers below it.
+#[derive(Clone, Copy, Debug, PartialEq, Eq)]
+struct Residues {
+    modulus: u32,
+    ghost ranged: { Modulus (pos modulus) },
+}
+
+// The ring, the residues, the root r, and by their residues the start point, the total and the current point.
+#[derive(Clone, Copy, Debug, PartialEq, Eq)]
 pub struct ResidueEngine {
-    t: i32,
-    n: i32,
-    m: u64,
-    r: u64,
-    g: u64,
-    total: u64,
-    current: u64,
-    ghost modulus: { Modulus (pos m) },
-    ghost ring: { InRing t n },
-    ghost root: { int_rem (at_root t n (pos r)) (pos m) ≡ pos 0 },
-    ghost residues: { (r < m) × (g < m) × (total < m) × (current < m) },
+    ring: Ring,
+    residues: Residues,
+    root: u32,
+    start: u32,
+    total: u32,
+    current: u32,
+    ghost rooted: { int_rem (at_root ring.t ring.n (pos root)) (pos residues.modulus) ≡ pos 0 },
+    ghost below: { (root < residues.modulus) × (start < residues.modulus) × (total < residues.modulus) × (current < residues.modulus) },
 }

@@ -8,9 +8,11 @@ use Rattle.engines.proofs.drive.Given as goal
 
 abbrev pub invariant-loop-d : goal.invariant-loop-d
 invariant-loop-d g l =
-    let e = g.E.PointEngine in
+    let e = g.E.PointEngine.machine in
     let s = g.S.Ruled.ring in
     let m = e.meaning l.initial.engine in
-    (e.meaning l.engine ≡ m)
-    × (Over s m → e.total_of l.engine ≡ act m (weighted s (take l.d-index (elems l.digits))) m.start)
-    × (Over s m → e.current_of l.engine ≡ act m (pow s s.β l.d-index) m.start)
+    record {
+      same : e.meaning l.engine ≡ m;
+      total : Over s m → e.total_of l.engine ≡ act m (weighted s (take l.d-index (elems l.digits))) m.start;
+      current : Over s m → e.current_of l.engine ≡ act m (pow s s.β l.d-index) m.start;
+    }

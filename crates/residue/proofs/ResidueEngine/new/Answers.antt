@@ -1,29 +1,30 @@
-use Rattle.std.proofs.Common.{◌≡◌, ℕ, refl, inr, arith, w64, SFits}
-use Rattle.std.proofs.lemmas.Int.{ints, to_z-of_z}
-use Rattle.residue.specs.Residue.{Modulus}
+use Rattle.std.proofs.Common.{◌≡◌, ◌<◌, pos, inr, refl, ap, sym, ◌∙◌, arith, rules}
+use lib.Signed.{rem_z}
+use Rattle.std.proofs.lemmas.Int.{ints}
+use Rattle.engine.specs.Rings.{InRing}
+use Rattle.residue.specs.Residue.{at, at_root, residue, Modulus}
 use Rattle.residue.proofs.ResidueEngine.new.Goals as goal
 
-pub returns-then-not-rooted : goal.returns-then-not-rooted
-returns-then-not-rooted c =
-    let t : SFits w64 c.args.t = c.ranges.t in
-    let n : SFits w64 c.args.n = c.ranges.n in
-    let m : SFits w64 c.args.m = c.ranges.m in
-    let r : SFits w64 c.args.r = c.ranges.r in
-    let g : SFits w64 c.args.g = c.ranges.g in
-    let e = simp to_z-of_z at c.rooted.ensures in
-    let modulus : Modulus c.args.m = (omega (arith, ints), omega (arith, ints)) in
-    inr (refl, modulus, λ root. let h = e.1 root in let z : ◌≡◌ {A = ℕ} 0 1 = cc in omega arith)
-
-pub restarted-requires : goal.restarted-requires
-restarted-requires c = record { modulus = (omega (arith, ints), omega (arith, ints)); root = c.if-not-rooted.ensures.0 refl }
+pub returns-then-not-divides : goal.returns-then-not-divides
+returns-then-not-divides c =
+    let a = c.args in
+    let residues = c.in_ok-residues.residues in
+    let ring = c.in_ok-ring.ring in
+    let m : Modulus a.m × (pos residues.modulus ≡ a.m) = search rules in
+    let tn : InRing a.t a.n × (ring.t ≡ a.t) × (ring.n ≡ a.n) = search rules in
+    let r : (c.in_ok-root.root < residues.modulus) × (pos c.in_ok-root.root ≡ a.r) = search rules in
+    let not : rem_z (at_root ring.t ring.n (pos c.in_ok-root.root)) (pos residues.modulus) ≡ pos 0 → ⊥ = search rules in
+    inr (refl, m.0, λ root. not ((λ i. rem_z (at_root (tn.1 i) (tn.2 i) (r.1 i)) (m.1 i)) ∙ root.5))
 
 pub returns : goal.returns
 returns c =
-    let t : SFits w64 c.args.t = c.ranges.t in
-    let n : SFits w64 c.args.n = c.ranges.n in
-    let m : SFits w64 c.args.m = c.ranges.m in
-    let r : SFits w64 c.args.r = c.ranges.r in
-    let g : SFits w64 c.args.g = c.ranges.g in
-    let modulus : Modulus c.args.m = (omega (arith, ints), omega (arith, ints)) in
-    let e = simp to_z-of_z at c.rooted.ensures in
-    (modulus, e.0 c.if-not-rooted.false, simp to_z-of_z at c.restarted.ensures)
+    let a = c.args in
+    let residues = c.in_ok-residues.residues in
+    let ring = c.in_ok-ring.ring in
+    let m : Modulus a.m × (pos residues.modulus ≡ a.m) = search rules in
+    let tn : InRing a.t a.n × (ring.t ≡ a.t) × (ring.n ≡ a.n) = search rules in
+    let r : (c.in_ok-root.root < residues.modulus) × (pos c.in_ok-root.root ≡ a.r) = search rules in
+    let g : (c.in_ok-start.start < residues.modulus) × (pos c.in_ok-start.start ≡ a.g) = search rules in
+    let divides : rem_z (at_root ring.t ring.n (pos c.in_ok-root.root)) (pos residues.modulus) ≡ pos 0 = search rules in
+    let same = sym (λ i. rem_z (at_root (tn.1 i) (tn.2 i) (r.1 i)) (m.1 i)) in
+    (m.0, (tn.0, omega (arith, ints, r, m), omega (arith, ints, r, m), omega (arith, ints, g, m), omega (arith, ints, g, m), same ∙ divides), ((λ i. residue (tn.1 i) (tn.2 i) (m.1 i) (r.1 i) (g.1 i)), refl, ap at g.1))

@@ -1,20 +1,14 @@
-use Rattle.std.proofs.Common.{arith, rules}
-use Rattle.std.proofs.lemmas.Int.{ints}
-use Rattle.residue.specs.Points.{natural_times, negative_times}
+use Rattle.std.proofs.Common.{pos, sym, ap, ◌∙◌}
+use Rattle.std.specs.Int.{int_rem_euclid}
+use Rattle.residue.specs.Residue.{at}
+use Rattle.residue.specs.Points.{times_is}
+use Rattle.residue.proofs.Kept.{product_is}
 use Rattle.residue.proofs.ResidueEngine.times.Goals as goal
 
-pub returns-then-k-ge0 : goal.returns-then-k-ge0
-returns-then-k-ge0 c =
+pub returns : goal.returns
+returns c =
     let e = c.args.self.now in
-    record {
-      is = natural_times e.t e.n e.m e.r e.g e.modulus c.args.k _ c.args.a (omega (arith, ints)) (omega (arith, ints));
-      below = search rules;
-    }
-
-pub returns-else-k-ge0 : goal.returns-else-k-ge0
-returns-else-k-ge0 c =
-    let e = c.args.self.now in
-    record {
-      is = negative_times e.t e.n e.m e.r e.g e.modulus c.args.k _ c.args.a (omega (arith, ints)) (omega (arith, ints));
-      below = search rules;
-    }
+    let k = c.args.k in
+    let a = c.args.a in
+    let product = product_is k a c.ranges.k c.ranges.a.fits c.from.result c.from-2.result c.from.ensures c.from-2.ensures in
+    ap at (c.reduced.ensures.is ∙ ap (λ z. int_rem_euclid z (pos e.residues.modulus)) product) ∙ sym (times_is e.ring.t e.ring.n e.residues.modulus e.root e.start e.residues.ranged k a)
