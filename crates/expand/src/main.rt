@@ -12,14 +12,15 @@ ghost use Rattle.systems.specs.Named.{kp};
 ghost use Rattle.digits.specs.Digits.{elem_of};
 ghost use Rattle.recoding.specs.Walk.{digits_of};
 
-use anyhow::anyhow;
+use anyhow::Context;
 use digits::digit::Digit;
+use digits::numeration::Numeration;
 use digits::width::Width;
 use numbers::{Asks, Coordinate, Element};
-use recoding::entry::{Entry, Unexpanded};
+use recoding::entry::Entry;
 use recoding::recode::expand;
 use std::io::Read;
-use systems::Kp;
+use systems::KP;
 
 // The most digits that are looked for: an element that may be loaded has fewer.
 const BUDGET: usize = 256;
@@ -34,8 +35,8 @@ fn lower<C: Coordinate>(d: Digit, sum: Element<C>) -> Element<C>
 {
     let e = Element::<C>::from_short(d.element());
     Element {
-        x: e.x.minus(sum.y.plus(sum.y)),
-        y: e.y.plus(sum.x.plus(sum.y)),
+        x: e.x - (sum.y + sum.y),
+        y: e.y + (sum.x + sum.y),
     }
 }
 
@@ -44,11 +45,11 @@ fn weighted_sum(entries: &[Entry<i64>]) -> Option<Element<i64>>
     ensures { IfSome result (λ v. short v ≡ weighted kp (digits_of entries.now)) }
 {
     let mut sum = Element { x: 0, y: 0 };
-    for k in 0..entries.len() {
+    for entry in entries.iter().rev() {
         if !sum.works() {
             return None;
         }
-        sum = lower(entries[entries.len() - 1 - k].digit, sum);
+        sum = lower(entry.digit, sum);
     }
     Some(sum)
 }
@@ -66,64 +67,51 @@ fn element_of(text: &str) -> Option<Element<i64>>
         x: x.trim().parse::<i64>().ok()?,
         y: y.trim().parse::<i64>().ok()?,
     };
-    if z.loads() { Some(z) } else { None }
+    z.loads().then_some(z)
 }
 
 // Recodes z and prints each digit with its remainder, then the weighted sum.
 fn recode(rt: &HostRuntime, z: Element<i64>) -> anyhow::Result<()> {
-    let Some(width) = Width::new(2) else {
-        return Err(anyhow!("no such width"));
-    };
-    let Some(one) = Digit::new(1, 0) else {
-        return Err(anyhow!("no such digit"));
-    };
-    let Some(minus_one) = Digit::new(-1, 0) else {
-        return Err(anyhow!("no such digit"));
+    let digits = [
+        Digit::new(1, 0).context("no such digit")?,
+        Digit::new(-1, 0).context("no such digit")?,
+    ];
+    let numeration = Numeration {
+        system: &KP,
+        width: Width::new(2).context("no such width")?,
+        digits: &digits,
     };
     let mut entries = [Entry {
         digit: Digit::none(),
         remainder: z,
     }; BUDGET];
-    match expand(&Kp, width, &[one, minus_one], z, &mut entries) {
-        Ok(length) => report(rt, z, &entries[..length]),
-        Err(Unexpanded::Even) => Err(anyhow!("the base divides a digit")),
-        Err(Unexpanded::Stuck(_)) => Err(anyhow!("no digit is of the remainder's class")),
-        Err(Unexpanded::Spent) => Err(anyhow!("the budget of digits is spent")),
-    }
+    let length = expand(numeration, z, &mut entries)?;
+    report(rt, z, &entries[..length])
 }
 
 fn report(rt: &HostRuntime, z: Element<i64>, entries: &[Entry<i64>]) -> anyhow::Result<()> {
-    let Element { x, y } = z;
-    println!(rt; "{x},{y} in kp at width 2 with the digits 1,0 and -1,0")?;
-    for e in entries {
-        let d = e.digit.element();
-        let (dx, dy) = (d.x, d.y);
-        let Element { x, y } = e.remainder;
-        println!(rt; "digit {dx},{dy} remainder {x},{y}")?;
+    println!(rt; "{z} in kp at width 2 with the digits 1,0 and -1,0")?;
+    for Entry { digit, remainder } in entries {
+        println!(rt; "digit {} remainder {}", digit.element(), *remainder)?;
     }
-    let length = entries.len();
-    match weighted_sum(entries) {
-        None => Err(anyhow!("the weighted sum is beyond the working limit")),
-        Some(sum) => {
-            let (a, b) = (sum.x, sum.y);
-            let verdict = if a == x && b == y {
-                "the element"
-            } else {
-                "another element"
-            };
-            println!(rt; "{length} digits, whose weighted sum is {a},{b}: {verdict}")?;
-            Ok(())
-        }
-    }
+    let sum = weighted_sum(entries).context("the weighted sum is beyond the working limit")?;
+    let verdict = if sum == z {
+        "the element"
+    } else {
+        "another element"
+    };
+    println!(rt;
+        "{} digits, whose weighted sum is {sum}: {verdict}",
+        entries.len()
+    )?;
+    Ok(())
 }
 
 fn run(rt: &HostRuntime) -> anyhow::Result<()> {
     let mut input = String::new(rt.alloc());
     rt.read_line(&mut input)?;
-    match element_of(input.as_str()) {
-        Some(z) => recode(rt, z),
-        None => Err(anyhow!("write x or x,y in decimal, magnitudes below 2^48")),
-    }
+    let z = element_of(input.as_str()).context("write x or x,y in decimal, magnitudes below 2^48")?;
+    recode(rt, z)
 }
 
 fn main(rt: HostRuntime) -> anyhow::Result<()> {

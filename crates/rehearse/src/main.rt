@@ -2,82 +2,16 @@
 
 #![tactic(auto)]
 
-use digits::verdict::Verdict;
-use engine::{Point, PointEngine};
-use numbers::{Asks, Coordinate, Element, NumberSystem, Ruled};
-use refusals::Refusal;
+use engine::PointEngine;
+use numbers::{Element, NumberSystem};
 use residue::ResidueEngine;
 use rules::calls::{Answer, Call, Event, Standing};
-use systems::{AtShort, G5, Km, Kp};
+use systems::{AtShort, G5, KM, KP};
 use unit::run::run_calls;
 use word::WordEngine;
 
 // The most calls of one list.
 const MOST: usize = 64;
-
-fn stands(standing: Standing) -> &'static str {
-    match standing {
-        Standing::Draft => "draft",
-        Standing::Cleared => "cleared",
-        Standing::Barred => "barred",
-        Standing::Running => "running",
-    }
-}
-
-fn show_call(rt: &HostRuntime, call: Call) -> anyhow::Result<()> {
-    match call {
-        Call::Width(w) => print!(rt; "width {w}")?,
-        Call::Put(x, y) => print!(rt; "put {x},{y}")?,
-        Call::Take(x, y) => print!(rt; "take {x},{y}")?,
-        Call::Check => print!(rt; "check")?,
-        Call::Load(z) => {
-            let Element { x, y } = z;
-            print!(rt; "load {x},{y}")?;
-        }
-        Call::Tick => print!(rt; "tick")?,
-        Call::Abandon => print!(rt; "abandon")?,
-    }
-    Ok(())
-}
-
-fn show_answer(rt: &HostRuntime, answer: Answer) -> anyhow::Result<()> {
-    match answer {
-        Answer::Classes(n) => print!(rt; "{n} classes")?,
-        Answer::Held(n) => print!(rt; "{n} held")?,
-        Answer::Judged(Verdict::Cleared) => print!(rt; "cleared")?,
-        Answer::Judged(
-            Verdict::Barred {
-                first,
-                lead,
-                period,
-            },
-        ) => {
-            let Element { x, y } = first;
-            print!(rt; "barred {x},{y} {lead} {period}")?;
-        }
-        Answer::Loaded => print!(rt; "loaded")?,
-        Answer::Digit(d) => {
-            let Element { x, y } = d;
-            print!(rt; "digit {x},{y}")?;
-        }
-        Answer::Abandoned => print!(rt; "abandoned")?,
-        Answer::Refused(refusal) => {
-            let number = refusal.number();
-            let word = refusal.word();
-            print!(rt; "refused {number} {word}")?;
-        }
-    }
-    Ok(())
-}
-
-fn show(rt: &HostRuntime, event: Event) -> anyhow::Result<()> {
-    show_call(rt, event.call)?;
-    print!(rt; ": ")?;
-    show_answer(rt, event.answer)?;
-    let standing = stands(event.standing);
-    println!(rt; "; {standing}")?;
-    Ok(())
-}
 
 // Makes the calls on a new unit, and prints its log and then what the unit tells.
 fn rehearse<S: NumberSystem, E: PointEngine>(
@@ -99,15 +33,17 @@ where
     };
     let mut log = [blank; MOST];
     let unit = run_calls(system, engine, calls, &mut log);
-    for (event, _call) in log.iter().zip(calls.iter()) {
-        show(rt, *event)?;
+    for event in log.iter().take(calls.len()) {
+        println!(rt; "{}", *event)?;
     }
-    let Point { u, v } = unit.engine().total();
-    let ticks = unit.ticks();
-    let width = unit.width();
-    let held = unit.held();
-    let need = unit.table_need();
-    println!(rt; "width {width}, {held} held, table need {need}, {ticks} ticks, total {u},{v}")?;
+    println!(rt;
+        "width {}, {} held, table need {}, {} ticks, total {}",
+        unit.width(),
+        unit.held(),
+        unit.table_need(),
+        unit.ticks(),
+        unit.engine().total()
+    )?;
     Ok(())
 }
 
@@ -155,7 +91,7 @@ fn kp_residue(rt: &HostRuntime, engine: ResidueEngine) -> anyhow::Result<()> {
         Call::Tick,
         Call::Abandon,
     ];
-    rehearse(rt, "kp, residue engine 11, 5, start 1", Kp, engine, &calls)
+    rehearse(rt, "kp, residue engine 11, 5, start 1", KP, engine, &calls)
 }
 
 // Doubled digits, a barred set, and the limits of the short kind.
@@ -174,7 +110,7 @@ fn others(rt: &HostRuntime) -> anyhow::Result<()> {
         at(1, 0),
     ];
     if let Ok(engine) = WordEngine::new(1, 2, 3, 5) {
-        rehearse(rt, "kp, word engine 3, 5", Kp, engine, &narrow)?;
+        rehearse(rt, "kp, word engine 3, 5", KP, engine, &narrow)?;
     }
     let short = [
         Call::Width(2),
@@ -189,7 +125,7 @@ fn others(rt: &HostRuntime) -> anyhow::Result<()> {
         rehearse(
             rt,
             "km, short, residue engine 11, 6, start 1",
-            AtShort(Km),
+            AtShort(KM),
             engine,
             &short,
         )?;

@@ -2,28 +2,22 @@
 
 #![tactic(auto)]
 
-ghost use Rattle.std.specs.Result.{MatchResult};
-
 use digits::verdict::Verdict;
 use digits::width::Width;
-use numbers::{Asks, Element, NumberSystem, Ruled};
+use numbers::NumberSystem;
 use refusals::Refusal;
 use sets::table::DigitSet;
-use systems::{G5, Km, Kp};
+use systems::{G5, KM, KP};
 use verdict::judge;
 
 // The set of the digits that the words write, each put in its turn; a digit that is refused ends it.
 fn set_of<S: NumberSystem>(system: &S, width: Width, words: &str) -> Result<DigitSet, Refusal> {
     let mut set = DigitSet::new(width);
     for word in words.split_whitespace() {
-        let (x, y) = match word.split_once(',') {
-            Some((x, y)) => (x, y),
-            None => (word, "0"),
-        };
-        let (Ok(x), Ok(y)) = (x.parse::<i64>(), y.parse::<i64>()) else {
-            return Err(Refusal::Line);
-        };
-        let _ = set.put(system, x, y)?;
+        let (x, y) = word.split_once(',').unwrap_or((word, "0"));
+        let x = x.parse::<i64>().map_err(|_| Refusal::Line)?;
+        let y = y.parse::<i64>().map_err(|_| Refusal::Line)?;
+        let _held = set.put(system, x, y)?;
     }
     Ok(set)
 }
@@ -35,19 +29,13 @@ fn verdict_of<S: NumberSystem>(system: &S, width: Width, words: &str) -> Result<
 
 // The verdict on the set of a line: its system, its width, its digits.
 fn read(line: &str) -> Result<Verdict, Refusal> {
-    let Some((name, rest)) = line.split_once(' ') else {
-        return Err(Refusal::Line);
-    };
+    let (name, rest) = line.split_once(' ').ok_or(Refusal::Line)?;
     let (places, words) = rest.split_once(' ').unwrap_or((rest, ""));
-    let Ok(places) = places.parse::<u32>() else {
-        return Err(Refusal::Line);
-    };
-    let Some(width) = Width::new(places) else {
-        return Err(Refusal::Width);
-    };
+    let places = places.parse::<u32>().map_err(|_| Refusal::Line)?;
+    let width = Width::new(places).ok_or(Refusal::Width)?;
     match name {
-        "kp" => verdict_of(&Kp, width, words),
-        "km" => verdict_of(&Km, width, words),
+        "kp" => verdict_of(&KP, width, words),
+        "km" => verdict_of(&KM, width, words),
         "g5" => verdict_of(&G5, width, words),
         _ => Err(Refusal::Line),
     }
@@ -55,22 +43,8 @@ fn read(line: &str) -> Result<Verdict, Refusal> {
 
 fn report(rt: &HostRuntime, line: &str) -> anyhow::Result<()> {
     match read(line) {
-        Ok(Verdict::Cleared) => println!(rt; "cleared")?,
-        Ok(
-            Verdict::Barred {
-                first,
-                lead,
-                period,
-            },
-        ) => {
-            let Element { x, y } = first;
-            println!(rt; "barred {x},{y} {lead} {period}")?;
-        }
-        Err(refusal) => {
-            let number = refusal.number();
-            let word = refusal.word();
-            println!(rt; "refused {number} {word}")?;
-        }
+        Ok(verdict) => println!(rt; "{verdict}")?,
+        Err(refusal) => println!(rt; "refused {} {refusal}", u8::from(refusal))?,
     }
     Ok(())
 }

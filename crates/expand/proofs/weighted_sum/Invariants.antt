@@ -1,9 +1,11 @@
-use Rattle.std.proofs.Common.{◌≡◌, ◌-◌, length, drop}
+use Rattle.std.proofs.Common.{◌≡◌, length, take, drop}
 use Rattle.ring.specs.Expansion.{weighted}
 use Rattle.numbers.specs.Meaning.{short}
 use Rattle.systems.specs.Named.{kp}
 use Rattle.recoding.specs.Walk.{digits_of}
 use Rattle.expand.proofs.weighted_sum.Given as goal
 
-abbrev pub invariant-loop-k : goal.invariant-loop-k
-invariant-loop-k l = short l.sum ≡ weighted kp (digits_of (drop (length l.entries - l.k) l.entries))
+abbrev pub invariant-loop-entry : goal.invariant-loop-entry
+invariant-loop-entry l =
+    (l.entry-iterator.iter.rest.now ≡ take (length l.entry-iterator.iter.rest.now) l.entries)
+    × (short l.sum ≡ weighted kp (digits_of (drop (length l.entry-iterator.iter.rest.now) l.entries)))

@@ -100,7 +100,7 @@ impl<S: NumberSystem, E: PointEngine> Unit<S, E> {
         if self.standing != Standing::Running {
             return Err(Refusal::Idle);
         }
-        let (digit, remainder) = self
+        let (digit, rest) = self
             .set
             .numeration(&self.system)
             .step(self.remainder)
@@ -108,8 +108,8 @@ impl<S: NumberSystem, E: PointEngine> Unit<S, E> {
         let ticks = self.ticks.checked_add(1).ok_or(Refusal::Idle)?;
         feed::<S, E>(&mut self.engine, digit);
         self.ticks = ticks;
-        self.remainder = remainder;
-        self.standing = left_with(remainder);
+        self.remainder = rest;
+        self.standing = left_with(rest);
         Ok(digit.element())
     }
 
