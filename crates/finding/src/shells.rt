@@ -10,13 +10,14 @@ use numbers::Element;
 use rounds::{Dynamics, Trail};
 
 // A magnitude that no coordinate passes where the norm is at most `top`.
+// The root never passes 2046, and the minimum tells it to the compiler, which then drops tests from the loops.
 pub fn reach(top: u32) -> i32
     requires { top ≤ 1600000 }
     ensures low { pos 0 ≤ℤ result }
     ensures high { result ≤ℤ pos 2046 }
     ensures bounds { Bounds top result }
 {
-    (4 * top / 3).isqrt() as i32
+    (4 * top / 3).isqrt().min(2046) as i32
 }
 
 impl<'d, D: Dynamics> Sieve<'d, D> {
@@ -40,6 +41,7 @@ impl<'d, D: Dynamics> Sieve<'d, D> {
     }
 
     // `least`, lowered by every (x, y) with y from −reach to reach.
+    // A loop, here and in `sift`, since a fold leaves its calls and all three clauses to proofs by hand.
     pub fn column(&self, least: u32, x: i32) -> u32
         requires near { unsigned_abs x < 2048 }
         requires small { least ≤ self.now.top + 1 }

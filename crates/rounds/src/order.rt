@@ -14,7 +14,8 @@ pub struct Ranked {
 }
 
 impl Ranked {
-    // Whether it comes before another, as `<` has it. The norms are compared first: alone, `<` compares the coordinates too at each step of a trail, which costs a quarter of the time.
+    // Whether it comes before another, as `<` says.
+    // The norms are compared first: `<` alone looks at the coordinates too at each step of a trail, which took a sixth more instructions.
     pub fn precedes(self, other: Ranked) -> bool
         ensures { Decides result (Ordered self.norm (short self.element) other.norm (short other.element)) }
     {
