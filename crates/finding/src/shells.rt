@@ -24,7 +24,7 @@ impl<'d, D: Dynamics> Sieve<'d, D> {
     // The norm of (x, y) if it lies from `from` below `least` and the trail of (x, y) never falls, else `least`.
     pub fn lowered(&self, least: u32, x: i32, y: i32) -> u32
         requires near { (unsigned_abs x < 2048) × (unsigned_abs y < 2048) }
-        requires small { least ≤ self.now.top + 1 }
+        requires small { least ≤ D.cap self.now.map.now + 1 }
         ensures down { result ≤ least }
         ensures from { self.now.from ≤ least → self.now.from ≤ result }
         ensures falls { self.now.from ≤ size (D.ring self.now.map.now) (point x y) → size (D.ring self.now.map.now) (point x y) < result → Falls (D.next self.now.map.now) (D.ring self.now.map.now) (point x y) }
@@ -44,7 +44,7 @@ impl<'d, D: Dynamics> Sieve<'d, D> {
     // A loop, here and in `sift`, since a fold leaves its calls and all three clauses to proofs by hand.
     pub fn column(&self, least: u32, x: i32) -> u32
         requires near { unsigned_abs x < 2048 }
-        requires small { least ≤ self.now.top + 1 }
+        requires small { least ≤ D.cap self.now.map.now + 1 }
         ensures down { result ≤ least }
         ensures from { self.now.from ≤ least → self.now.from ≤ result }
         ensures falls { Column (D.next self.now.map.now) (D.ring self.now.map.now) self.now.from result self.now.reach x }
@@ -58,6 +58,7 @@ impl<'d, D: Dynamics> Sieve<'d, D> {
 
     // The least norm, from `from` to `top`, of an element whose trail never falls, or top + 1.
     pub fn sift(&self) -> u32
+        requires { self.now.from ≤ self.now.top + 1 }
         ensures down { result ≤ self.now.top + 1 }
         ensures from { self.now.from ≤ result }
         ensures falls { Shell (D.next self.now.map.now) (D.ring self.now.map.now) self.now.from result }

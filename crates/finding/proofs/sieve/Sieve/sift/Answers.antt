@@ -10,7 +10,7 @@ loop-x-init g c =
     let low = s.low in
     let high = s.high in (
       grind (arith, ints),
-      s.some,
+      c.requires,
       omega arith,
       left_none (g.D.Dynamics.next d) (g.D.Dynamics.ring d) (g.D.Dynamics.lawful d) s.from s.top s.reach s.low s.bounds _ _ (omega arith) (grind (arith, ints)),
     )
