@@ -69,6 +69,9 @@ module _ (next : Elem → Elem) (z : Elem) where
     pub kept : (k : ℕ) (a : Elem) → a ≡ f k → size s a ≤ M
     kept k a e = subst (λ u. size s u ≤ M) (sym e) (small_at k)
 
+    pub kept_from : (n k : ℕ) (mark a : Elem) → mark ≡ f n → a ≡ after next k mark → size s a ≤ M
+    kept_from n k mark a e h = kept (n + k) a (h ∙ from_there n k mark e)
+
   -- as long as nothing returned to the i-th element within i + 1 steps, the elements up to it are distinct
   distinct : (i : ℕ) → ((k : ℕ) → 0 < k → k < i + 1 → f (i + k) ≢ f i) → (a b : ℕ) → a < b → b < i + 1 → f a ≢ f b
   distinct i h a b l m e = h (b - a) (omega arith) (omega arith) (ap f (omega arith) ∙ moved b a (i - a) (sym e) ∙ ap f (omega arith))

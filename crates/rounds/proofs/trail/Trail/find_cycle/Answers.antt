@@ -3,7 +3,7 @@ use Rattle.std.proofs.lemmas.Bool.{both_ways}
 use Rattle.ring.specs.Verdict.{Before}
 use Rattle.numbers.specs.Meaning.{short}
 use Rattle.rounds.proofs.Orders.{not_before, apart, together}
-use Rattle.rounds.proofs.Trails.{ReturnsAfter, Gone, more, gone_none, gone_more, from_there, falls_from, cycle_from, kept, next_mark}
+use Rattle.rounds.proofs.Trails.{ReturnsAfter, Gone, more, gone_none, gone_more, falls_from, cycle_from, kept_from, next_mark}
 use Rattle.rounds.proofs.trail.Trail.find_cycle.Goals as goal
 
 pub follow-init : goal.follow-init
@@ -16,7 +16,7 @@ step-hare-requires g c =
     let t = c.args.self.now in
     let d = t.map.now in
     let i = c.follow.invariant in
-    kept (g.D.Dynamics.next d) (short t.first.element) (g.D.Dynamics.ring d) (g.D.Dynamics.cap d) (g.D.Dynamics.closed d) t.inside (c.follow.power - 1 + c.follow.gone) _ (i.1.there ∙ from_there (g.D.Dynamics.next d) (short t.first.element) (c.follow.power - 1) c.follow.gone _ i.0)
+    kept_from (g.D.Dynamics.next d) (short t.first.element) (g.D.Dynamics.ring d) (g.D.Dynamics.cap d) (g.D.Dynamics.closed d) t.inside (c.follow.power - 1) c.follow.gone _ _ i.0 i.1.there
 
 pub returns-then-eq : goal.returns-then-eq
 returns-then-eq g c =
@@ -33,7 +33,7 @@ falls_to-requires g c =
     let d = t.map.now in
     let i = c.follow.invariant in
     let e = more (g.D.Dynamics.next d) (short c.follow.mark) c.follow.gone _ _ i.1.there c.step-hare.ensures in
-    kept (g.D.Dynamics.next d) (short t.first.element) (g.D.Dynamics.ring d) (g.D.Dynamics.cap d) (g.D.Dynamics.closed d) t.inside (c.follow.power - 1 + (c.follow.gone + 1)) _ (e ∙ from_there (g.D.Dynamics.next d) (short t.first.element) (c.follow.power - 1) (c.follow.gone + 1) _ i.0)
+    kept_from (g.D.Dynamics.next d) (short t.first.element) (g.D.Dynamics.ring d) (g.D.Dynamics.cap d) (g.D.Dynamics.closed d) t.inside (c.follow.power - 1) (c.follow.gone + 1) _ _ i.0 e
 
 pub returns-then-falls_to : goal.returns-then-falls_to
 returns-then-falls_to g c =
