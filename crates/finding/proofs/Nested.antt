@@ -30,7 +30,6 @@ zero_only s g z h = norm_zero s g z (size_is s g z ∙ ap pos (omega arith))
 pub none_zero : (next : Elem → Elem) (s : System) → Lawful s → Inner next s 1
 none_zero next s g z h = (0, zero_only s g z h)
 
--- in the loops the order low ≤ x tells which x is meant
 module _ (next : Elem → Elem) (s : System) (g : Lawful s) (n : ℕ) where
   before_ends : (x y : ℤ) → Inner next s n → Left next s n x → Under next s n x y → size s (point x y) ≡ n → (a : Elem) → Before s a (point x y) → Ends next a
   before_ends x y b l u e a h =
@@ -39,8 +38,8 @@ module _ (next : Elem → Elem) (s : System) (g : Lawful s) (n : ℕ) where
   falls_ends : (x y : ℤ) → Inner next s n → Left next s n x → Under next s n x y → size s (point x y) ≡ n → Falls next s (point x y) → Ends next (point x y)
   falls_ends x y b l u e f = ends_from next (point x y) f.0 (before_ends x y b l u e (after next f.0 (point x y)) f.1)
 
-  pub under_more : (low x y y' : ℤ) → low ≤ℤ x → low ≤ℤ y → y' ≡ y +ℤ pos 1 → Inner next s n → Left next s n x → Under next s n x y → (size s (point x y) ≡ n → Falls next s (point x y)) → Under next s n x y'
-  under_more low x y y' _ _ e b l u here z q m lt =
+  pub under_more : (x y y' : ℤ) → y' ≡ y +ℤ pos 1 → Inner next s n → Left next s n x → Under next s n x y → (size s (point x y) ≡ n → Falls next s (point x y)) → Under next s n x y'
+  under_more x y y' e b l u here z q m lt =
       by_lt_z z.y y (λ k. u z q m k)
       (λ ge. let w : z ≡ point x y = same z (point x y) m (omega (arith, ints)) in
       let q' : size s (point x y) ≡ n = ap (size s) (sym w) ∙ q in
@@ -54,8 +53,8 @@ module _ (next : Elem → Elem) (s : System) (g : Lawful s) (n : ℕ) where
       at zero = refl
       at (suc m) = ap next (at m) ∙ r
 
-  pub found : next 𝟘 ≡ 𝟘 → 0 < n → (low x y : ℤ) → low ≤ℤ x → low ≤ℤ y → (lead period : ℕ) → Inner next s n → Left next s n x → Under next s n x y → size s (point x y) ≡ n → Runs next s (point x y) (Some (record { lead = lead; period = period })) → First next s (point x y) lead period
-  found r o low x y _ _ lead period b l u e t =
+  pub found : next 𝟘 ≡ 𝟘 → 0 < n → (x y : ℤ) (lead period : ℕ) → Inner next s n → Left next s n x → Under next s n x y → size s (point x y) ≡ n → Runs next s (point x y) (Some (record { lead = lead; period = period })) → First next s (point x y) lead period
+  found r o x y lead period b l u e t =
       let z = point x y in
       record {
         none = λ h. never (λ k. after next k z) (steady next z) (stays r z) t.1.0 t.1.1.0 t.1.1.1 t.1.1.2
@@ -72,29 +71,28 @@ module _ (next : Elem → Elem) (s : System) (g : Lawful s) (n : ℕ) where
     pub under_none : (low x : ℤ) → low ≡ neg_ℤ c → Under next s n x low
     under_none low x e z q m l = let i = inside s g n c bounds z (omega (arith, q)) in absurd (omega (arith, ints, i.1))
 
-    pub left_more : (low x x' y : ℤ) → low ≤ℤ x → low ≤ℤ y → c <ℤ y → x' ≡ x +ℤ pos 1 → Left next s n x → Under next s n x y → Left next s n x'
-    left_more low x x' y _ _ past e l u z q lt =
+    left_more : (x x' y : ℤ) → c <ℤ y → x' ≡ x +ℤ pos 1 → Left next s n x → Under next s n x y → Left next s n x'
+    left_more x x' y past e l u z q lt =
         by_lt_z z.x x (λ k. l z q k)
         (λ ge. let i = inside s g n c bounds z (omega (arith, q)) in u z q (omega (arith, ints)) (omega (arith, ints, i.1)))
 
-    pub below_more : (low x : ℤ) → low ≤ℤ x → c <ℤ x → Inner next s n → Left next s n x → Inner next s (n + 1)
-    below_more low x _ past b l z h = by (dec_lt (size s z) n)
+    below_more : (x : ℤ) → c <ℤ x → Inner next s n → Left next s n x → Inner next s (n + 1)
+    below_more x past b l z h = by (dec_lt (size s z) n)
       where
         by : Dec (size s z < n) → Ends next z
         by (yes k) = b z k
         by (no k) = let q : size s z ≡ n = omega arith in let i = inside s g n c bounds z (omega arith) in l z q (omega (arith, ints, i.0))
 
+    -- a loop over −c to c ends before a turn past c, or after the turn at c
+    pub column_done : (x x' y : ℤ) → x' ≡ x +ℤ pos 1 → Inner next s n → Left next s n x → Under next s n x y →
+        (c <ℤ y) ⊎ ((c ≤ℤ y) × (size s (point x y) ≡ n → Falls next s (point x y))) → Left next s n x'
+    column_done x x' y e b l u = ⊎_elim (λ past. left_more x x' y past e l u)
+        (λ r. left_more x x' (y +ℤ pos 1) (omega (arith, ints, r.0)) e l (under_more x y (y +ℤ pos 1) refl b l u r.1))
+
+    pub rows_done : (x : ℤ) → Inner next s n → Left next s n x → (c <ℤ x) ⊎ ((c ≤ℤ x) × Left next s n (x +ℤ pos 1)) → Inner next s (n + 1)
+    rows_done x b l = ⊎_elim (λ past. below_more x past b l) (λ r. below_more (x +ℤ pos 1) (omega (arith, ints, r.0)) b r.1)
+
 -- how the trail of an element of norm n goes
 pub tried_is : (next : Elem → Elem) (s : System) (n : ℕ) (z : Elem) (r : Option Orbit) → size s z ≡ n → Runs next s z r → Tried next s n z r
 tried_is next s n z None e h = λ _. h
 tried_is next s n z (Some o) e h = (e, h)
-
--- what is told where a loop over −c to c ended: before a turn past c, or after the turn at c
-module _ (next : Elem → Elem) (s : System) (g : Lawful s) (n : ℕ) (c : ℤ) (o : pos 0 ≤ℤ c) (bounds : Bounds n c) (below : Inner next s n) where
-  pub column_done : (low x y x' : ℤ) → low ≤ℤ x → low ≤ℤ y → x' ≡ x +ℤ pos 1 → Left next s n x → Under next s n x y → (c <ℤ y) ⊎ ((c ≤ℤ y) × (size s (point x y) ≡ n → Falls next s (point x y))) → Left next s n x'
-  column_done low x y x' lx ly e l u = ⊎_elim (λ past. left_more next s g n c o bounds low x x' y lx ly past e l u)
-      (λ r. left_more next s g n c o bounds low x x' (y +ℤ pos 1) lx (omega (arith, ints, ly)) (omega (arith, ints, r.0)) e l (under_more next s g n low x y (y +ℤ pos 1) lx ly refl below l u r.1))
-
-  pub rows_done : (low x : ℤ) → low ≤ℤ x → Left next s n x → (c <ℤ x) ⊎ ((c ≤ℤ x) × Left next s n (x +ℤ pos 1)) → Inner next s (n + 1)
-  rows_done low x lx l = ⊎_elim (λ past. below_more next s g n c o bounds low x lx past below l)
-      (λ r. below_more next s g n c o bounds low (x +ℤ pos 1) (omega (arith, ints, lx)) (omega (arith, ints, r.0)) below r.1)

@@ -10,20 +10,21 @@ use numbers::Element;
 use rounds::{Dynamics, Trail};
 
 // A magnitude that no coordinate passes where the norm is at most `top`.
+// The root never passes 2046, and the minimum tells it to the compiler, which then drops tests from the loops.
 pub fn reach(top: u32) -> i32
     requires { top ≤ 1600000 }
     ensures low { pos 0 ≤ℤ result }
     ensures high { result ≤ℤ pos 2046 }
     ensures bounds { Bounds top result }
 {
-    (4 * top / 3).isqrt() as i32
+    (4 * top / 3).isqrt().min(2046) as i32
 }
 
 impl<'d, D: Dynamics> Sieve<'d, D> {
     // The norm of (x, y) if it lies from `from` below `least` and the trail of (x, y) never falls, else `least`.
     pub fn lowered(&self, least: u32, x: i32, y: i32) -> u32
         requires near { (unsigned_abs x < 2048) × (unsigned_abs y < 2048) }
-        requires small { least ≤ self.now.top + 1 }
+        requires small { least ≤ D.cap self.now.map.now + 1 }
         ensures down { result ≤ least }
         ensures from { self.now.from ≤ least → self.now.from ≤ result }
         ensures falls { self.now.from ≤ size (D.ring self.now.map.now) (point x y) → size (D.ring self.now.map.now) (point x y) < result → Falls (D.next self.now.map.now) (D.ring self.now.map.now) (point x y) }
@@ -40,9 +41,10 @@ impl<'d, D: Dynamics> Sieve<'d, D> {
     }
 
     // `least`, lowered by every (x, y) with y from −reach to reach.
+    // A loop, here and in `sift`, since a fold leaves its calls and all three clauses to proofs by hand.
     pub fn column(&self, least: u32, x: i32) -> u32
         requires near { unsigned_abs x < 2048 }
-        requires small { least ≤ self.now.top + 1 }
+        requires small { least ≤ D.cap self.now.map.now + 1 }
         ensures down { result ≤ least }
         ensures from { self.now.from ≤ least → self.now.from ≤ result }
         ensures falls { Column (D.next self.now.map.now) (D.ring self.now.map.now) self.now.from result self.now.reach x }
@@ -56,6 +58,7 @@ impl<'d, D: Dynamics> Sieve<'d, D> {
 
     // The least norm, from `from` to `top`, of an element whose trail never falls, or top + 1.
     pub fn sift(&self) -> u32
+        requires { self.now.from ≤ self.now.top + 1 }
         ensures down { result ≤ self.now.top + 1 }
         ensures from { self.now.from ≤ result }
         ensures falls { Shell (D.next self.now.map.now) (D.ring self.now.map.now) self.now.from result }

@@ -1,6 +1,6 @@
 // Shells of norms, whose elements are sifted in any order.
 
-ghost use Rattle.std.specs.Prelude.{◌≡◌, ◌+◌, ◌≤◌, pos, ◌≤ℤ◌, ⊤};
+ghost use Rattle.std.specs.Prelude.{◌≡◌, ◌≤◌, pos, ◌≤ℤ◌, ⊤};
 ghost use Rattle.finding.specs.Finding.{Bounds};
 
 use crate::shells::reach;
@@ -14,12 +14,12 @@ pub struct Sieve<'d, D: Dynamics> {
     pub top: u32,
     pub reach: i32,
     ghost inside: { top ≤ D.cap map.now },
-    ghost some: { from ≤ top + 1 },
     ghost low: { pos 0 ≤ℤ reach },
     ghost high: { reach ≤ℤ pos 2046 },
     ghost bounds: { Bounds top reach },
 }
 
+// By hand, since a struct with a ghost field over a parameter has no derived Clone.
 impl<'d, D: Dynamics> Copy for Sieve<'d, D> {}
 
 impl<'d, D: Dynamics> Clone for Sieve<'d, D> {
@@ -35,7 +35,7 @@ impl<'d, D: Dynamics> Clone for Sieve<'d, D> {
 impl<'d, D: Dynamics> Sieve<'d, D> {
     // The shell of the norms from `from` to `top`.
     pub fn new(map: &'d D, from: u32, top: u32) -> Self
-        requires { (top ≤ D.cap map.now) × (from ≤ top + 1) }
+        requires { top ≤ D.cap map.now }
         ensures map { result.map.now ≡ map.now }
         ensures from { result.from ≡ from }
         ensures top { result.top ≡ top }

@@ -1,5 +1,5 @@
 -- The order by natural numbers is ring's; and the box that the elements of small norm stand in.
-use Rattle.std.proofs.Common.{◌≡◌, ◌≢◌, ℕ, ◌<◌, ◌≤◌, ℤ, pos, nat_abs, ◌<ℤ◌, false, ◌&&◌, int_eq, sym, ap, ◌∙◌, subst₂, inl, inr, ⊎_elim, arith, rules}
+use Rattle.std.proofs.Common.{◌≡◌, ◌≢◌, ℕ, ◌<◌, ◌≤◌, ℤ, pos, nat_abs, ◌<ℤ◌, true, false, ◌&&◌, int_eq, sym, ap, ◌∙◌, subst₂, inl, inr, ⊎_elim, arith, rules}
 use lib.Signed.{<ℤ_irrefl}
 use Rattle.std.proofs.lemmas.Int.{ints}
 use Rattle.ring.specs.Elem.{Elem, Below}
@@ -42,3 +42,6 @@ module _ (s : System) (g : Lawful s) (M : ℕ) (small : M ≤ 1600000) where
 -- ---- what `==` tells of two elements
 pub apart : (a b : Element ℤ) → false ≡ (int_eq a.x b.x && int_eq a.y b.y) → short a ≢ short b
 apart a b h e = search rules
+
+pub together : (a b : Element ℤ) → true ≡ (int_eq a.x b.x && int_eq a.y b.y) → short a ≡ short b
+together a b h = search rules

@@ -7,7 +7,7 @@ mod dynamics;
 mod order;
 mod trail;
 
-pub use cycles::{Cycle, Lap, Orbit};
+pub use cycles::{Cycle, Orbit};
 pub use dynamics::Dynamics;
 pub use order::Ranked;
 pub use trail::Trail;

@@ -17,6 +17,7 @@ pub struct Trail<'d, D: Dynamics> {
     ghost inside: { size (D.ring map.now) (short first.element) ≤ D.cap map.now },
 }
 
+// By hand, since a struct with a ghost field over a parameter has no derived Clone.
 impl<'d, D: Dynamics> Copy for Trail<'d, D> {}
 
 impl<'d, D: Dynamics> Clone for Trail<'d, D> {

@@ -1,4 +1,4 @@
-use Rattle.std.proofs.Common.{◌≡◌, ◌+◌, ◌≤◌, sym, refl, subst, inl, inr, rules, arith, w32}
+use Rattle.std.proofs.Common.{◌≡◌, ◌+◌, ◌≤◌, sym, refl, subst, inl, inr, rules, arith, w32, to_z}
 use Rattle.std.proofs.lemmas.Int.{ints, to_z-of_z}
 use Rattle.digits.specs.declared.verdict.Verdict.TheVariants.{Cleared}
 use Rattle.finding.specs.Finding.{Inner, Judged}
@@ -40,7 +40,7 @@ loop-y-preserved g c =
     let t = c.loop-y-test.true in (
       c.loop-y.invariant.0,
       grind (arith, ints),
-      under_more (g.D.Dynamics.next d) (g.D.Dynamics.ring d) (g.D.Dynamics.lawful d) c.search.norm _ _ _ _ c.loop-x.invariant.1 c.loop-y.invariant.1 (to_z-of_z w32 _ (grind (arith, ints))) c.search.invariant.2 c.loop-x.invariant.2 c.loop-y.invariant.2 c.in_default.ensures,
+      under_more (g.D.Dynamics.next d) (g.D.Dynamics.ring d) (g.D.Dynamics.lawful d) c.search.norm (to_z w32 c.loop-x.x-bits) (to_z w32 c.loop-y.y-bits) _ (to_z-of_z w32 _ (grind (arith, ints))) c.search.invariant.2 c.loop-x.invariant.2 c.loop-y.invariant.2 c.in_default.ensures,
     )
 
 pub loop-x-preserved : goal.loop-x-preserved
@@ -53,7 +53,7 @@ loop-x-preserved g c =
     let t = c.loop-x-test.true in (
       c.loop-y.invariant.0,
       grind (arith, ints),
-      column_done (g.D.Dynamics.next d) (g.D.Dynamics.ring d) (g.D.Dynamics.lawful d) c.search.norm c.reach-c.result e.low e.bounds c.search.invariant.2 _ _ _ _ c.loop-x.invariant.1 c.loop-y.invariant.1 (to_z-of_z w32 _ (grind (arith, ints))) c.loop-x.invariant.2 c.loop-y.invariant.2
+      column_done (g.D.Dynamics.next d) (g.D.Dynamics.ring d) (g.D.Dynamics.lawful d) c.search.norm c.reach-c.result e.low e.bounds (to_z w32 c.loop-x.x-bits) _ (to_z w32 c.loop-y.y-bits) (to_z-of_z w32 _ (grind (arith, ints))) c.search.invariant.2 c.loop-x.invariant.2 c.loop-y.invariant.2
           (elim c.loop-y-test.branch [ else-loop-y-test w ↦ inl (search rules) | then-loop-y-test+in_default+else-y-c w ↦ inr (search rules, w.in_default.ensures) ]),
     )
 
@@ -67,10 +67,15 @@ search-preserved g c =
     let e = c.reach-c.ensures in (
       elim c.loop-x-test.branch [ else-loop-x-test w ↦ search rules | then-loop-x-test+else-x-c w ↦ search rules ],
       c.cleared_to-clear.ensures.down,
-      rows_done next s law c.search.norm c.reach-c.result e.low e.bounds c.search.invariant.2 _ _ c.loop-x.invariant.1 c.loop-x.invariant.2
-          (elim c.loop-x-test.branch [ else-loop-x-test w ↦ inl (search rules)
-           | then-loop-x-test+else-x-c w ↦ inr (search rules, column_done next s law c.search.norm c.reach-c.result e.low e.bounds c.search.invariant.2 _ _ _ _ c.loop-x.invariant.1 w.loop-y.invariant.1 refl c.loop-x.invariant.2 w.loop-y.invariant.2
-              (elim w.loop-y-test.branch [ else-loop-y-test w' ↦ inl (search rules) | then-loop-y-test+in_default+else-y-c w' ↦ inr (search rules, w'.in_default.ensures) ])) ]),
+      rows_done next s law c.search.norm c.reach-c.result e.low e.bounds (to_z w32 c.loop-x.x-bits) c.search.invariant.2 c.loop-x.invariant.2
+          (elim c.loop-x-test.branch [
+            | else-loop-x-test w ↦ inl (search rules)
+            | then-loop-x-test+else-x-c w ↦ inr (
+              search rules,
+              column_done next s law c.search.norm c.reach-c.result e.low e.bounds (to_z w32 c.loop-x.x-bits) _ (to_z w32 w.loop-y.y-bits) refl c.search.invariant.2 c.loop-x.invariant.2 w.loop-y.invariant.2
+                  (elim w.loop-y-test.branch [ else-loop-y-test w' ↦ inl (search rules) | then-loop-y-test+in_default+else-y-c w' ↦ inr (search rules, w'.in_default.ensures) ]),
+            )
+          ]),
       c.cleared_to-clear.ensures.ends,
     )
 
@@ -78,8 +83,7 @@ pub returns-in-Some : goal.returns-in-Some
 returns-in-Some g c =
     let d = c.args.map.now in
     let r = c.in-Some.ensures in
-    found (g.D.Dynamics.next d) (g.D.Dynamics.ring d) (g.D.Dynamics.lawful d) c.search.norm (g.D.Dynamics.rests d) (omega arith)
-    _ _ _ c.loop-x.invariant.1 c.loop-y.invariant.1 c.in-Some.field-0.lead c.in-Some.field-0.period c.search.invariant.2 c.loop-x.invariant.2 c.loop-y.invariant.2 r.0 r.1
+    found (g.D.Dynamics.next d) (g.D.Dynamics.ring d) (g.D.Dynamics.lawful d) c.search.norm (g.D.Dynamics.rests d) (omega arith) (to_z w32 c.loop-x.x-bits) (to_z w32 c.loop-y.y-bits) c.in-Some.field-0.lead c.in-Some.field-0.period c.search.invariant.2 c.loop-x.invariant.2 c.loop-y.invariant.2 r.0 r.1
 
 -- and so at the last norm
 pub returns-else-norm-clear : goal.returns-else-norm-clear
@@ -90,9 +94,14 @@ returns-else-norm-clear g c =
     let law = g.D.Dynamics.lawful d in
     let e = c.reach-c.ensures in
     let none : c.loop-x-test.found ≡ Cleared = elim c.loop-x-test.branch [ else-loop-x-test w ↦ search rules | then-loop-x-test+else-x-c w ↦ search rules ] in
-    let ends : Inner next s (c.search.norm + 1) = rows_done next s law c.search.norm c.reach-c.result e.low e.bounds c.search.invariant.2 _ _ c.loop-x.invariant.1 c.loop-x.invariant.2
-          (elim c.loop-x-test.branch [ else-loop-x-test w ↦ inl (search rules)
-           | then-loop-x-test+else-x-c w ↦ inr (search rules, column_done next s law c.search.norm c.reach-c.result e.low e.bounds c.search.invariant.2 _ _ _ _ c.loop-x.invariant.1 w.loop-y.invariant.1 refl c.loop-x.invariant.2 w.loop-y.invariant.2
-              (elim w.loop-y-test.branch [ else-loop-y-test w' ↦ inl (search rules) | then-loop-y-test+in_default+else-y-c w' ↦ inr (search rules, w'.in_default.ensures) ])) ]) in
+    let ends : Inner next s (c.search.norm + 1) = rows_done next s law c.search.norm c.reach-c.result e.low e.bounds (to_z w32 c.loop-x.x-bits) c.search.invariant.2 c.loop-x.invariant.2
+    (elim c.loop-x-test.branch [
+      | else-loop-x-test w ↦ inl (search rules)
+      | then-loop-x-test+else-x-c w ↦ inr (
+        search rules,
+        column_done next s law c.search.norm c.reach-c.result e.low e.bounds (to_z w32 c.loop-x.x-bits) _ (to_z w32 w.loop-y.y-bits) refl c.search.invariant.2 c.loop-x.invariant.2 w.loop-y.invariant.2
+            (elim w.loop-y-test.branch [ else-loop-y-test w' ↦ inl (search rules) | then-loop-y-test+in_default+else-y-c w' ↦ inr (search rules, w'.in_default.ensures) ]),
+      )
+    ]) in
     let last : c.args.bound ≤ c.search.norm = search rules in
     subst (Judged next s c.args.bound) (sym none) (λ z h. ends z (omega (arith, h, last)))

@@ -1,4 +1,4 @@
-use Rattle.std.proofs.Common.{◌≡◌, sym, ◌∙◌, subst, ap₂, w32, rules}
+use Rattle.std.proofs.Common.{◌≡◌, ap₂, w32, rules}
 use Rattle.std.proofs.lemmas.Int.{to_z-of_z}
 use Rattle.ring.specs.System.{size}
 use Rattle.rounds.specs.Rounds.{Runs}

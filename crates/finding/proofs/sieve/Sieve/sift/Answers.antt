@@ -1,4 +1,4 @@
-use Rattle.std.proofs.Common.{◌+ℤ◌, ◌≤ℤ◌, ◌<ℤ◌, pos, neg_ℤ, refl, rules, arith, w32, to_z}
+use Rattle.std.proofs.Common.{◌+ℤ◌, ◌≤ℤ◌, ◌<ℤ◌, pos, refl, rules, arith, w32, to_z}
 use Rattle.std.proofs.lemmas.Int.{ints, to_z-of_z}
 use Rattle.finding.proofs.Sifted.{left_none, left_more, left_all}
 use Rattle.finding.proofs.sieve.Sieve.sift.Goals as goal
@@ -10,7 +10,7 @@ loop-x-init g c =
     let low = s.low in
     let high = s.high in (
       grind (arith, ints),
-      s.some,
+      c.requires,
       omega arith,
       left_none (g.D.Dynamics.next d) (g.D.Dynamics.ring d) (g.D.Dynamics.lawful d) s.from s.top s.reach s.low s.bounds _ _ (omega arith) (grind (arith, ints)),
     )
@@ -27,7 +27,7 @@ loop-x-preserved g c =
       grind (arith, ints),
       r.from i.1,
       omega (arith, r.down, i.2),
-      left_more (g.D.Dynamics.next d) (g.D.Dynamics.ring d) (g.D.Dynamics.lawful d) s.from s.top s.reach s.low s.bounds _ _ _ _ _ i.0 i.2 r.down (to_z-of_z w32 _ (grind (arith, ints))) i.3 r.falls,
+      left_more (g.D.Dynamics.next d) (g.D.Dynamics.ring d) (g.D.Dynamics.lawful d) s.from s.top s.reach s.low s.bounds _ _ (to_z w32 c.loop-x.x-bits) _ i.2 r.down (to_z-of_z w32 _ (grind (arith, ints))) i.3 r.falls,
     )
 
 pub returns-clause-falls : goal.returns-clause-falls
@@ -36,7 +36,7 @@ returns-clause-falls g c =
     let d = s.map.now in
     let i = c.loop-x.invariant in
     let past : s.reach <ℤ to_z w32 c.loop-x.x-bits = search rules in
-    left_all (g.D.Dynamics.next d) (g.D.Dynamics.ring d) (g.D.Dynamics.lawful d) s.from s.top s.reach s.low s.bounds _ _ _ i.0 i.2 past i.3
+    left_all (g.D.Dynamics.next d) (g.D.Dynamics.ring d) (g.D.Dynamics.lawful d) s.from s.top s.reach s.low s.bounds _ (to_z w32 c.loop-x.x-bits) i.2 past i.3
 
 pub returns-2-clause-falls : goal.returns-2-clause-falls
 returns-2-clause-falls g c =
@@ -49,5 +49,5 @@ returns-2-clause-falls g c =
     let r = c.column-least.ensures in
     let x = to_z w32 c.loop-x.x-bits in
     let last : s.reach ≤ℤ x = search rules in
-    let left = left_more next ring law s.from s.top s.reach s.low s.bounds _ _ _ x (x +ℤ pos 1) i.0 i.2 r.down refl i.3 r.falls in
-    left_all next ring law s.from s.top s.reach s.low s.bounds c.column-least.result (neg_ℤ s.reach) (x +ℤ pos 1) (omega (arith, ints, i.0)) (omega (arith, r.down, i.2)) (omega (arith, ints, last)) left
+    let left = left_more next ring law s.from s.top s.reach s.low s.bounds _ _ x (x +ℤ pos 1) i.2 r.down refl i.3 r.falls in
+    left_all next ring law s.from s.top s.reach s.low s.bounds c.column-least.result (x +ℤ pos 1) (omega (arith, r.down, i.2)) (omega (arith, ints, last)) left
