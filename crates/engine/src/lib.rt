@@ -9,9 +9,9 @@ ghost use Rattle.engine.specs.Theorems.{ActingLaws, StepLaw};
 ghost use Rattle.engine.specs.Told.{text_of};
 ghost use Rattle.engine.specs.declared.Point.{Point};
 
-mod ring;
+mod rings;
 
-pub use ring::{Ring, in_ring};
+pub use rings::{Ring, in_ring};
 use std::fmt;
 
 // A point as it is told: a pair of whole numbers.

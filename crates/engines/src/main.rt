@@ -2,10 +2,11 @@
 
 #![tactic(auto)]
 
-ghost use Rattle.std.specs.Prelude.{◌≡◌};
+ghost use Rattle.std.specs.Prelude.{◌≡◌, pos, MatchOption};
 ghost use Rattle.ring.specs.Expansion.{weighted};
-ghost use Rattle.engine.specs.Meaning.{act};
+ghost use Rattle.engine.specs.Meaning.{act, elem};
 ghost use Rattle.engine.specs.Rings.{Over};
+ghost use Rattle.systems.specs.Named.{kp};
 ghost use Rattle.digits.specs.Digits.{elems};
 
 use anyhow::Context;
@@ -34,7 +35,9 @@ fn drive<S: Ruled, E: PointEngine>(engine: &mut E, digits: &[Digit])
 }
 
 // The digits of 9 in kp at width 2 over 1 and −1: 1, 0, 0, −1, 0, 1.
-fn nine() -> Option<[Digit; 6]> {
+fn nine() -> Option<[Digit; 6]>
+    ensures { MatchOption result ⊥ (λ ds. weighted kp (elems ds) ≡ elem (pos 9) (pos 0)) }
+{
     let zero = Digit::none();
     let one = Digit::new(1, 0)?;
     let minus_one = Digit::new(-1, 0)?;

@@ -25,7 +25,6 @@ impl ResidueEngine {
     }
 
     // k times a point.
-    #[tactic(auto, using(crate::specs::Points::times_is))]
     fn times(&self, k: i32, a: u32) -> u32
         ensures { at (pos result) ≡ times (meaning_of self.now) k (at (pos a)) }
     {

@@ -1,7 +1,7 @@
 use Rattle.std.proofs.Common.{arith, w64, SFits}
 use Rattle.std.proofs.lemmas.Int.{ints, to_z-of_z}
 use Rattle.engine.specs.Rings.{InRing}
-use Rattle.engine.proofs.ring.Ring.new.Goals as goal
+use Rattle.engine.proofs.rings.Ring.new.Goals as goal
 
 pub returns : goal.returns
 returns c =
