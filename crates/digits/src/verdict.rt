@@ -4,7 +4,7 @@ ghost use Rattle.digits.specs.Verdicts.{verdict_text};
 use numbers::Element;
 use std::fmt;
 
-// A verdict on a full set of digits.
+// A verdict on a full set of digits. It is no Option of a witness: both cases have names that everything above says, sheets and listings too.
 #[derive(Clone, Copy, Debug, PartialEq, Eq)]
 pub enum Verdict {
     // Every element has an expansion.

@@ -25,7 +25,7 @@ pub trait Coordinate: Copy + PartialEq + From<i32> + Add<Output = Self> + Sub<Ou
     fn magnitude(self) -> u64
         ensures { result ≡ unsigned_abs (value self) };
 
-    // Whether the coordinate may be loaded.
+    // Whether the coordinate may be loaded. This and the next are two functions, and not one with a limit: the names say what the limits are for, and no caller has to pass one.
     fn loads(self) -> bool
         ensures { Decides result (unsigned_abs (value self) < LOADING) }
     {
@@ -70,7 +70,7 @@ pub trait Coordinate: Copy + PartialEq + From<i32> + Add<Output = Self> + Sub<Ou
     ghost limits: { (1024 ≤ LOADING) × (16 * LOADING ≤ WORKING) × (2 ^ 28 ≤ WORKING) × (LOADING ≤ 2 ^ 56) };
 }
 
-// The short kind: 32 bits.
+// The short kind: 32 bits. The two kinds have four bodies of a line each, which call what std gives each width by itself: no trait of std has it for both.
 impl Coordinate for i32 {
     ghost value = { λ x. x };
 

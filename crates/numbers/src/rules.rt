@@ -50,14 +50,14 @@ pub trait Ruled {
     ghost widths: { Widths ring.p WIDEST };
 }
 
-// The questions that a system answers of elements with coordinates of the kind C.
+// The questions that a system answers of elements with coordinates of the kind C. That an element is below the working limit is what the interface says that its caller owes, so it stands as a `requires` and not in a type that each system would have to make.
 pub trait Asks<C: Coordinate>: Ruled {
-    // Whether the base divides z.
+    // Whether the base divides z. Elements are taken by reference: an impl for every kind is not given its trait's clauses where a struct over C is taken by value.
     fn divides(&self, z: &Element<C>) -> bool
         requires { Below C.WORKING (meaning C.value z.now) }
         ensures { Decides result (Even Self.ring (meaning C.value z.now)) };
 
-    // z divided by the base, and 0 where the base does not divide z.
+    // z divided by the base, and 0 where the base does not divide z: so the interface has it, which is why it is no Option.
     fn quotient(&self, z: &Element<C>) -> Element<C>
         requires { Below C.WORKING (meaning C.value z.now) }
         ensures { Quotient Self.ring (meaning C.value z.now) (meaning C.value result) };

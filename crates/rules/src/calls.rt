@@ -28,7 +28,7 @@ pub enum Call {
     Abandon,
 }
 
-// What a call answers.
+// What a call answers, refusals among the rest, and not a Result around it: a history holds every answer, and what is said of histories is said of each case.
 #[derive(Clone, Copy, Debug, PartialEq, Eq)]
 pub enum Answer {
     // The number of classes at the width.

@@ -11,7 +11,7 @@ use numbers::Element;
 const REACH: i64 = 255;
 
 impl Digit {
-    // The digit 0, which is no digit of a set.
+    // The digit 0, which is no digit of a set. A step answers it, and no Option, where the base divides: an expansion has the entry 0 there.
     pub fn none() -> Digit
         ensures { elem_of result ≡ 𝟘 }
     {

@@ -13,6 +13,7 @@ use sets::classes::class_count;
 use sets::table::DigitSet;
 use verdict::judge;
 
+// The clauses write out the setting of S, its ring with the limits: a ghost member for it would be one more value to tie to the others by a law in every proof.
 impl<S: NumberSystem, E: PointEngine> Unit<S, E> {
     // Empties the digits at another width, and answers the number of classes.
     pub fn set_width(&mut self, places: u64) -> Result<u32, Refusal>
