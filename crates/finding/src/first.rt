@@ -8,6 +8,7 @@ use digits::verdict::Verdict;
 use numbers::Element;
 use rounds::{Dynamics, Orbit, Trail};
 
+// That x and y are below 2048 is asked of each function that takes them: they come from ranges, and a type for them would be made at every turn only to be taken apart.
 // Where the trail of (x, y) returns, if its norm is `norm` and it does not fall.
 pub fn tried<D: Dynamics>(map: &D, norm: u32, x: i32, y: i32) -> Option<Orbit>
     requires { (unsigned_abs x < 2048) × ((unsigned_abs y < 2048) × (norm ≤ D.cap map.now)) }

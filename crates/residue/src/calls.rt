@@ -41,7 +41,7 @@ impl ResidueEngine {
     }
 }
 
-// The point of a residue, as it is told.
+// The point of a residue, as it is told. It is no `From`: a residue is a plain number here, and both types are another crate's.
 fn shown(a: u32) -> Point
     ensures { result ≡ at (pos a) }
 {

@@ -9,6 +9,7 @@ use refusals::Refusal;
 pub fn next_line<'a>(f: Field<'a>) -> Result<Option<(Field<'a>, Field<'a>)>, Refusal>
     ensures { Cuts f.entry result }
 {
+    // A `?` would not do: that there is no line to cut has two meanings.
     match f.split(b'\n') {
         Some((line, rest)) => Ok(Some((line, rest))),
         None if f.text.is_empty() => Ok(None),
