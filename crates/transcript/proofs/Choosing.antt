@@ -1,20 +1,11 @@
 -- The engine that a first line chooses.
-use Rattle.std.proofs.Common.{◌≡◌, ℕ, ◌^◌, ◌<◌, List, ℤ, pos, Ok, Err, Result, subst, inl, inr, arith}
+use Rattle.std.proofs.Common.{◌≡◌, ℕ, ℤ, pos, Ok, Err, Result, subst, inl, inr}
 use Rattle.refusals.specs.Rows.{Uppermost, Unfit}
 use Rattle.refusals.specs.declared.Refusal.{Refusal}
 use Rattle.rules.specs.Views.{Setting}
 use Rattle.residue.specs.Made.{Made}
 use Rattle.residue.specs.declared.ResidueEngine.{ResidueEngine}
-use Rattle.numerals.specs.Numeral.{Counts}
-use Rattle.numerals.proofs.Inverse.{counts_are_read, one_number}
-use Rattle.sheet.specs.Parting.{bytes}
-use Rattle.sheet.specs.declared.field.Field.{Field}
-use Rattle.sheet.specs.declared.line.Line.{Line}
-use Rattle.sheet.specs.declared.line.Line.TheVariants as line
-use Rattle.replies.specs.Asked.{Chooses, Chosen}
 use Rattle.transcript.specs.Engines.{engine_rows}
-use Rattle.transcript.specs.Serving.{Fitting}
-use Rattle.replies.specs.declared.asking.Choice.{Choice}
 
 -- the same numbers make the same engine
 pub made_same : (s t u v w x y z p q : ℤ) (e : Result ResidueEngine Refusal) → s ≡ t → u ≡ v → w ≡ x → y ≡ z → p ≡ q → Made s u w y p e → Made t v x z q e
@@ -29,21 +20,3 @@ module _ (k : Setting) (m r g : ℕ) where
   -- and a refusal is the uppermost row's
   pub refused_by : (e : Refusal) → Made k.ring.t k.ring.n (pos m) (pos r) (pos g) (Err e) → Uppermost (engine_rows k m r g) e
   refused_by e x = elim x [ inl y ↦ inl (y.1, y.0) | inr y ↦ inr ((λ n. n y.1), inl (y.2, y.0)) ]
-
-counts_fit : (bs : List ℕ) (n : ℕ) → Counts bs n → n < 2 ^ 63
-counts_fit bs n c =
-    let r = counts_are_read bs n c in
-    let w = (one_number bs (pos n) (pos n) r r).1 in
-    omega (arith, w)
-
-chooses_fit : (l : Line) (q : Choice) → Chooses l q.system q.modulus q.root q.start → Fitting q
-chooses_fit (line.System s a b c) q x = record { modulus = counts_fit (bytes a) q.modulus x.1; root = counts_fit (bytes b) q.root x.2; start = counts_fit (bytes c) q.start x.3 }
-chooses_fit (line.Width w) q x = absurd x
-chooses_fit (line.Put a b) q x = absurd x
-chooses_fit (line.Take a b) q x = absurd x
-chooses_fit line.Check q x = absurd x
-chooses_fit (line.Load a b) q x = absurd x
-
--- the numbers of a choice that was read are small
-pub chosen_fits : (f : Field) (q : Choice) → Chosen f q.system q.modulus q.root q.start → Fitting q
-chosen_fits f q x = chooses_fit x.0 q x.2

@@ -20,9 +20,9 @@ use Rattle.rules.specs.declared.calls.Event.{Event}
 use Rattle.replies.specs.Sinks.{Given}
 use Rattle.listing.specs.Lines.{tick_line}
 use Rattle.transcript.specs.Serving.{Ticked}
-use Rattle.transcript.specs.Engines.{engines}
+use Rattle.residue.specs.Made.{residue_machine}
 use Rattle.residue.specs.declared.ResidueEngine.{ResidueEngine}
-use Rattle.replies.proofs.Fronts.{given_then, given_none}
+use Rattle.replies.proofs.Sinks.{given_then, given_none}
 use Rattle.transcript.proofs.Ticks.{closes_cleared}
 use Rattle.transcript.specs.Transcript.{tick_lines, stands_before, tick_of, ticked, element_of, loaded}
 
@@ -166,26 +166,26 @@ off_cleared standing.Barred e n = absurd (let z : ◌≡◌ {A = ℕ} 0 1 = cc i
 off_cleared standing.Running e n = absurd (n refl)
 
 -- how far a run has come, from the load x after h: the digits ticked and printed, and the history now
-module _ {K : Type 0} (lost : K → Bool) (written : K → List ℕ) (k : Setting) (e : ResidueEngine) (h : History) (x : Event) where
+module _ {K : Type 0} (held : K → Option (List ℕ)) (k : Setting) (e : ResidueEngine) (h : History) (x : Event) where
   pub record Course (w : View ResidueEngine) (a b : K) : Type 0 where
     pub digits : List Elem
     pub past : History
-    pub comes : Comes k engines e past w
+    pub comes : Comes k residue_machine e past w
     pub left : cleared (stood past) ≡ true
     pub chain : (more : List Elem) → stood past ≡ stands_before more → ticked more past ≡ ticked (digits ++ more) (x ∷ h)
-    pub given : Given lost written a b (tick_lines digits)
+    pub given : Given held a b (tick_lines digits)
 
-  pub course_none : (w : View ResidueEngine) (a : K) (z : Elem) → loaded x ≡ Some z → Comes k engines e (x ∷ h) w → Course w a a
+  pub course_none : (w : View ResidueEngine) (a : K) (z : Elem) → loaded x ≡ Some z → Comes k residue_machine e (x ∷ h) w → Course w a a
   course_none w a z is c = record {
     digits = [];
     past = x ∷ h;
     comes = c;
-    left = subst (λ s. cleared s ≡ true) (sym c.3) (load_leaves k engines c.0 w z x.call x.answer is c.2);
+    left = subst (λ s. cleared s ≡ true) (sym c.3) (load_leaves k residue_machine c.0 w z x.call x.answer is c.2);
     chain = λ more s. refl;
-    given = given_none lost written a;
+    given = given_none held a;
   }
 
-  pub course_more : (v w : View ResidueEngine) (a b f : K) (q : Course v a b) → Ticked lost written k v w b f e q.past → Course w a f
+  pub course_more : (v w : View ResidueEngine) (a b f : K) (q : Course v a b) → Ticked held k v w b f e q.past → Course w a f
   course_more v w a b f q t =
       let d = t.digit in
       let s = t.stands in
@@ -198,7 +198,7 @@ module _ {K : Type 0} (lost : K → Bool) (written : K → List ℕ) (k : Settin
             ap (λ y. ticked more (tick_of d y ∷ q.past)) at
             ∙ q.chain (d ∷ more) t.on
             ∙ ap (λ l. ticked l (x ∷ h)) (sym (append_assoc q.digits (d ∷ []) more));
-        given = subst (Given lost written a f) (tick_lines_more q.digits d) (given_then lost written a b f (tick_lines q.digits) (tick_line d.x d.y) q.given t.given);
+        given = subst (Given held a f) (tick_lines_more q.digits d) (given_then held a b f (tick_lines q.digits) (tick_line d.x d.y) q.given t.given);
       }
 
   -- where no run is on, the ticks are those of the digits

@@ -6,10 +6,8 @@ use Rattle.numbers.specs.Kinds.{long_loading, long_working}
 use Rattle.systems.specs.Named.{kp, km, g5, theta_widest, g5_widest}
 use Rattle.engine.specs.Meaning.{Meaning}
 use Rattle.engine.specs.declared.Point.{Point}
-use Rattle.residue.specs.Residue.{at, residue, Modulus, Root}
-use Rattle.residue.specs.Made.{meaning_of}
-use Rattle.residue.specs.declared.ResidueEngine.{ResidueEngine}
-use Rattle.rules.specs.Views.{Setting, setting, Machine, machine}
+use Rattle.residue.specs.Residue.{residue, Modulus, Root}
+use Rattle.rules.specs.Views.{Setting, setting}
 use Rattle.sheet.specs.declared.line.System.{System}
 use Rattle.sheet.specs.declared.line.System.TheVariants.{Kp, Km, G5}
 
@@ -29,7 +27,3 @@ engine_rows k m r g =
     row (¬ (Modulus (pos m))) refusal.Modulus
     ∷ row (¬ (Root k.ring.t k.ring.n (pos m) (pos r) (pos g))) refusal.Root
     ∷ []
-
--- residue engines, with what each means, its total and its current point
-abbrev pub engines : Machine ResidueEngine Point
-engines = machine meaning_of (λ e. at (pos e.total)) (λ e. at (pos e.current))

@@ -1,14 +1,14 @@
 // The answer to one line of a sheet.
 ghost use Rattle.unit.specs.Seen.{setting, view};
-ghost use Rattle.sheet.specs.Parting.{Within};
 ghost use Rattle.transcript.specs.Serving.{Serves};
 ghost use Rattle.transcript.specs.Transcript.{Answers, AnsweredLine};
 
 use crate::running::run_out;
+use listing::Line;
 use numbers::{Asks, Coordinate, NumberSystem, Ruled};
 use refusals::Refusal;
 use replies::asking::asked;
-use replies::printing::{print, refuse};
+use replies::printing::{self, print};
 use replies::sink::Sink;
 use residue::ResidueEngine;
 use rules::calls::{Answer, Call};
@@ -22,11 +22,11 @@ fn answer_call<S: NumberSystem, K: Sink>(
     call: Call,
     out: &mut K,
 )
-    ensures { Serves K.Sink.lost K.Sink.written (setting S.ring S.WIDEST S.Kind.LOADING S.Kind.WORKING) (view S.Kind.value unit.old) (view S.Kind.value unit.new) out.old out.new (λ m h g text. Answers (setting S.ring S.WIDEST S.Kind.LOADING S.Kind.WORKING) m number call h g text) }
+    ensures { Serves K.held (setting S.ring S.WIDEST S.Kind.LOADING S.Kind.WORKING) (view S.Kind.value unit.old) (view S.Kind.value unit.new) out.old out.new (λ m h g text. Answers (setting S.ring S.WIDEST S.Kind.LOADING S.Kind.WORKING) m number call h g text) }
 {
     let answer = unit.perform(call);
-    print(out, number, call, answer);
-    if let Answer::Loaded = answer {
+    printing::answer(out, number, call, answer);
+    if answer == Answer::Loaded {
         run_out(unit, out);
     }
 }
@@ -38,11 +38,16 @@ pub fn answer_line<S: NumberSystem, K: Sink>(
     line: Field,
     out: &mut K,
 )
-    requires { Within line }
-    ensures { Serves K.Sink.lost K.Sink.written (setting S.ring S.WIDEST S.Kind.LOADING S.Kind.WORKING) (view S.Kind.value unit.old) (view S.Kind.value unit.new) out.old out.new (λ m h g text. AnsweredLine (setting S.ring S.WIDEST S.Kind.LOADING S.Kind.WORKING) m number line.entry h g text) }
+    ensures { Serves K.held (setting S.ring S.WIDEST S.Kind.LOADING S.Kind.WORKING) (view S.Kind.value unit.old) (view S.Kind.value unit.new) out.old out.new (λ m h g text. AnsweredLine (setting S.ring S.WIDEST S.Kind.LOADING S.Kind.WORKING) m number line.entry h g text) }
 {
     match asked(line) {
         Some(call) => answer_call(unit, number, call, out),
-        None => refuse(out, Refusal::Line, number),
+        None => print(
+            out,
+            Line::Refused {
+                why: Refusal::Line,
+                line: number,
+            },
+        ),
     }
 }

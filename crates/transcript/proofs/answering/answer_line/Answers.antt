@@ -7,4 +7,4 @@ returns-in-Some g c = λ e h x.
     (q.0, (q.1.0, inl (c.in-Some.call, c.in-Some.ensures, q.1.1), q.1.2, q.1.3))
 
 pub returns-in-None : goal.returns-in-None
-returns-in-None g c = λ e h x. (h, (_, inr (c.in-None.ensures, refl, refl), x, c.refuse.ensures))
+returns-in-None g c = λ e h x. (h, (_, inr (c.in-None.ensures, refl, refl), x, c.print.ensures))

@@ -1,22 +1,14 @@
-use Rattle.std.proofs.Common.{ap, ◌∙◌, w32, w64, SFits, to_z, of_z, rules}
-use Rattle.std.proofs.lemmas.Int.{to_z-of_z, to_z_pos}
-use Rattle.ring.specs.System.{System}
+use Rattle.std.proofs.Common.{◌≡◌, pos, w64, to_z, of_z, rules}
 use Rattle.transcript.proofs.Choosing.{made_same}
 use Rattle.transcript.proofs.opening.engine_for.Goals as goal
 
 pub returns : goal.returns
 returns g c =
-    let k = c.parameters-k.result in
     let q = c.args.choice in
-    let t32 : SFits w32 k.t = search rules in
-    let n32 : SFits w32 k.n = search rules in
-    let t64 : SFits w64 k.t = search rules in
-    let n64 : SFits w64 k.n = search rules in
-    let ruled = c.parameters-k.ensures.ruled in
     made_same _ _ _ _ _ _ _ _ _ _ c.new.result
-    (ap (λ x. to_z w64 (of_z w64 x)) (to_z-of_z w32 k.t t32) ∙ to_z-of_z w64 k.t t64 ∙ ap (λ (s : System). s.t) ruled)
-    (ap (λ x. to_z w64 (of_z w64 x)) (to_z-of_z w32 k.n n32) ∙ to_z-of_z w64 k.n n64 ∙ ap (λ (s : System). s.n) ruled)
-    (to_z_pos w64 q.modulus c.requires.modulus)
-    (to_z_pos w64 q.root c.requires.root)
-    (to_z_pos w64 q.start c.requires.start)
+    (let e : to_z w64 (of_z w64 c.from.result) ≡ g.S.Ruled.ring.t = search rules in e)
+    (let e : to_z w64 (of_z w64 c.from-2.result) ≡ g.S.Ruled.ring.n = search rules in e)
+    (let e : to_z w64 (of_z w64 c.cast_signed.result) ≡ pos q.modulus = search rules in e)
+    (let e : to_z w64 (of_z w64 c.cast_signed-2.result) ≡ pos q.root = search rules in e)
+    (let e : to_z w64 (of_z w64 c.cast_signed-3.result) ≡ pos q.start = search rules in e)
     c.new.ensures
