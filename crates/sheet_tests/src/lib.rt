@@ -1,4 +1,4 @@
-// Examples of numerals, sheet lines and listing lines.
+// Examples of numerals, sheet lines, listing lines and a whole listing.
 
 #![tactic(auto)]
 
@@ -9,6 +9,7 @@ mod tests {
     use sheet::field::Field;
     use sheet::line::Line;
     use sheet::reading::read_line;
+    use transcript::listing_of;
 
     // The letter of a line, and the places of its first number field and of its last.
     fn told(text: &str) -> Result<(char, Option<usize>, Option<usize>), Refusal> {
@@ -114,5 +115,17 @@ mod tests {
         assert!(rt; matches!(n, Ok(6)));
         assert_eq!(rt; &buf[0..6], b"N,e,1\n".as_slice());
         assert!(rt; listing::Line::Load.write(&mut buf[0..79]).is_err());
+    }
+
+    #[test]
+    fn listings(rt: HostRuntime) {
+        let sheet = b"S,kp,b,5,1\nW,2\nD,1,0\nD,-1,0\nC\nZ,9,0\n";
+        let want =
+            b"S,2\nW,2\nD,1\nD,2\nC,cleared\nZ\nT,1,0\nT,0,0\nT,0,0\nT,-1,0\nT,0,0\nT,1,0\nL,6,9\n";
+        let Ok(listing) = listing_of(rt.alloc(), sheet) else {
+            assert!(rt; false);
+            return;
+        };
+        assert_eq!(rt; listing.as_slice(), want.as_slice());
     }
 }

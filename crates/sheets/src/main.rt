@@ -2,22 +2,16 @@
 
 #![tactic(auto)]
 
-use anyhow::anyhow;
-use replies::sink::Sink;
-use replies::text::Text;
+use anyhow::Context;
 use std::io::Write;
 use std::{env, fs};
-use transcript::transcribe;
+use transcript::listing_of;
 
 fn list(rt: &HostRuntime, name: &str) -> anyhow::Result<()> {
     let sheet = fs::read(rt, name)?;
-    let mut listing = Text::new(rt.alloc());
-    transcribe(&sheet, &mut listing);
-    if !listing.is_whole() {
-        return Err(anyhow!("there is no memory for the listing"));
-    }
+    let listing = listing_of(rt.alloc(), &sheet).context("there is no memory for the listing")?;
     println!(rt; "== {name}")?;
-    rt.stdout().write_all(listing.as_slice())?;
+    rt.stdout().write_all(&listing)?;
     Ok(())
 }
 

@@ -1,16 +1,11 @@
 -- The engine that a first line chooses.
-use Rattle.std.proofs.Common.{◌≡◌, ℕ, ℤ, pos, Ok, Err, Result, subst, inl, inr}
+use Rattle.std.proofs.Common.{ℕ, pos, Ok, Err, inl, inr}
 use Rattle.refusals.specs.Rows.{Uppermost, Unfit}
 use Rattle.refusals.specs.declared.Refusal.{Refusal}
 use Rattle.rules.specs.Views.{Setting}
 use Rattle.residue.specs.Made.{Made}
 use Rattle.residue.specs.declared.ResidueEngine.{ResidueEngine}
 use Rattle.transcript.specs.Engines.{engine_rows}
-
--- the same numbers make the same engine
-pub made_same : (s t u v w x y z p q : ℤ) (e : Result ResidueEngine Refusal) → s ≡ t → u ≡ v → w ≡ x → y ≡ z → p ≡ q → Made s u w y p e → Made t v x z q e
-made_same s t u v w x y z p q e a b c d f m =
-    subst (λ i. Made t v x z i e) f (subst (λ i. Made t v x i p e) d (subst (λ i. Made t v i y p e) c (subst (λ i. Made t i w y p e) b (subst (λ i. Made i u w y p e) a m))))
 
 module _ (k : Setting) (m r g : ℕ) where
   -- an engine that is made is one that no row refuses

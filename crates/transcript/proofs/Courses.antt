@@ -1,6 +1,8 @@
 -- A run, from the load to its end, in terms of the history.
-use Rattle.std.proofs.Common.{◌≡◌, ℕ, Bool, true, false, cond, List, [], ◌∷◌, ◌++◌, length, Some, None, Ok, Err, Option, Result, sym, refl, ap, ◌∙◌, subst, append_assoc, append-nil, arith, MatchOption, MatchResult}
+use Rattle.std.proofs.Common.{◌≡◌, ℕ, Bool, true, false, cond, List, [], ◌∷◌, ◌++◌, length, Some, None, Ok, Err, Option, Result, sym, refl, ap, ◌∙◌, subst, append_assoc, append-nil, MatchOption, MatchResult}
+use Rattle.std.proofs.lemmas.Option.{none-some}
 use Rattle.std.specs.Option.{option_map}
+use mathlib.Core.Bool.{false≢true}
 use Rattle.refusals.specs.declared.Refusal.{Refusal}
 use Rattle.ring.specs.Elem.{Elem}
 use Rattle.ring.specs.Expansion.{Expands}
@@ -26,9 +28,6 @@ use Rattle.replies.proofs.Sinks.{given_then, given_none}
 use Rattle.transcript.proofs.Ticks.{closes_cleared}
 use Rattle.transcript.specs.Transcript.{tick_lines, stands_before, tick_of, ticked, element_of, loaded}
 
-never : {A : Type 0} (a : A) → ◌≡◌ {A = Option A} None (Some a) → ⊥
-never a e = let z : ◌≡◌ {A = ℕ} 0 1 = cc in omega arith
-
 -- the call that closes a run at its load, if one does
 closed_by : Standing → Call → Option Call
 closed_by s c = cond (running s) None (Some c)
@@ -40,28 +39,28 @@ begun x h z = record { element = z; before = h; digits = []; closed = closed_by 
 begins_with : (x : Event) (h : History) (z : Elem) (b : Bool) (c : Call) → cond b (element_of c) None ≡ Some z →
     cond b (option_map (closing x) (starting x h (run h) c)) (run h) ≡ Some (begun x h z)
 unfolding begun closed_by
-begins_with x h z false c e = absurd (never z e)
-begins_with x h z true (call.Width w) e = absurd (never z e)
-begins_with x h z true (call.Put a b) e = absurd (never z e)
-begins_with x h z true (call.Take a b) e = absurd (never z e)
-begins_with x h z true call.Check e = absurd (never z e)
+begins_with x h z false c e = absurd (none-some z e)
+begins_with x h z true (call.Width w) e = absurd (none-some z e)
+begins_with x h z true (call.Put a b) e = absurd (none-some z e)
+begins_with x h z true (call.Take a b) e = absurd (none-some z e)
+begins_with x h z true call.Check e = absurd (none-some z e)
 begins_with x h z true (call.Load y) e = let same : short y ≡ z = cc in ap (λ d. Some (begun x h d)) same
-begins_with x h z true call.Tick e = absurd (never z e)
-begins_with x h z true call.Abandon e = absurd (never z e)
+begins_with x h z true call.Tick e = absurd (none-some z e)
+begins_with x h z true call.Abandon e = absurd (none-some z e)
 
 -- after the load x of z, the last run is that of z
 run_begins : (x : Event) (h : History) (z : Elem) → loaded x ≡ Some z → run (x ∷ h) ≡ Some (begun x h z)
 run_begins x h z e = begins_with x h z (accepted x.answer) x.call e
 
 loads_not_abandons : (b : Bool) (c : Call) (z : Elem) → cond b (element_of c) None ≡ Some z → whole (Some c) ≡ true
-loads_not_abandons false c z e = absurd (never z e)
+loads_not_abandons false c z e = absurd (none-some z e)
 loads_not_abandons true (call.Width w) z e = refl
 loads_not_abandons true (call.Put a b) z e = refl
 loads_not_abandons true (call.Take a b) z e = refl
 loads_not_abandons true call.Check z e = refl
 loads_not_abandons true (call.Load y) z e = refl
 loads_not_abandons true call.Tick z e = refl
-loads_not_abandons true call.Abandon z e = absurd (never z e)
+loads_not_abandons true call.Abandon z e = absurd (none-some z e)
 
 -- the run r with ticks that answer ds
 goes : List Elem → Run → Run
@@ -136,8 +135,8 @@ module _ (x : Event) (h : History) (z : Elem) (is : loaded x ≡ Some z) where
       }
 
 nothing_loaded : (b : Bool) (z : Elem) → cond b None None ≡ Some z → ⊥
-nothing_loaded true z e = never z e
-nothing_loaded false z e = never z e
+nothing_loaded true z e = none-some z e
+nothing_loaded false z e = none-some z e
 
 module _ {E C : Type 0} (k : Setting) (M : Machine E C) (v w : View E) where
   -- an accepted load leaves the unit cleared or running
@@ -150,7 +149,7 @@ module _ {E C : Type 0} (k : Setting) (M : Machine E C) (v w : View E) where
     where
       go : (r : Result (Unit {0}) Refusal) → a ≡ answer (λ _. answers.Loaded) r → MatchResult r (λ _. Loads k M v w y) (Down k M v w (call.Load y)) → cleared w.standing ≡ true
       go (Ok u) q x = closes_cleared (short y) w.standing x.stands
-      go (Err u) q x = absurd (never z (sym (ap (λ b. cond (accepted b) (element_of (call.Load y)) None) q) ∙ e))
+      go (Err u) q x = absurd (none-some z (sym (ap (λ b. cond (accepted b) (element_of (call.Load y)) None) q) ∙ e))
   load_leaves z call.Tick a e t = absurd (nothing_loaded (accepted a) z e)
   load_leaves z call.Abandon a e t = absurd (nothing_loaded (accepted a) z e)
 
@@ -160,9 +159,9 @@ tick_lines_more (f ∷ ds) d = append_assoc (tick_line f.x f.y) (tick_lines ds) 
 
 -- cleared or running, and not running
 off_cleared : (s : Standing) → cleared s ≡ true → (s ≡ standing.Running → ⊥) → s ≡ standing.Cleared
-off_cleared standing.Draft e n = absurd (let z : ◌≡◌ {A = ℕ} 0 1 = cc in omega arith)
+off_cleared standing.Draft e n = absurd (false≢true e)
 off_cleared standing.Cleared e n = refl
-off_cleared standing.Barred e n = absurd (let z : ◌≡◌ {A = ℕ} 0 1 = cc in omega arith)
+off_cleared standing.Barred e n = absurd (false≢true e)
 off_cleared standing.Running e n = absurd (n refl)
 
 -- how far a run has come, from the load x after h: the digits ticked and printed, and the history now

@@ -13,7 +13,7 @@ use Rattle.listing.specs.Lines.{refusal_line}
 use Rattle.sheet.specs.Parting.{bytes, Free, Split, Cuts, Lines}
 use Rattle.sheet.specs.declared.field.Field.{Field}
 use Rattle.refusals.specs.declared.Refusal.{Refusal}
-use Rattle.residue.specs.Made.{residue_machine}
+use Rattle.residue.specs.Made.{residue_machine, meaning_of}
 use Rattle.replies.specs.Sinks.{Given}
 use Rattle.transcript.specs.Transcript.{AnsweredLine, Lists, Goes_on}
 use Rattle.replies.proofs.Sinks.{given_then, given_none}
@@ -61,14 +61,14 @@ module _ {K : Type 0} (held : K → Option (List ℕ)) (k : Setting) (e : Residu
     pub text : List ℕ
     pub comes : Comes k residue_machine e past w
     pub given : Given held a b text
-    pub goes_on : (fs : List Field) (left : Field) (more : List ℕ) → Lines at fs left → Lists k (residue_machine.meaning e) i fs (bytes left) past more →
-        (gs : List Field) × Lines f gs left × Lists k (residue_machine.meaning e) 2 gs (bytes left) h (text ++ more)
+    pub goes_on : (fs : List Field) (left : Field) (more : List ℕ) → Lines at fs left → Lists k (meaning_of e) i fs (bytes left) past more →
+        (gs : List Field) × Lines f gs left × Lists k (meaning_of e) 2 gs (bytes left) h (text ++ more)
 
   pub progress_none : (w : View ResidueEngine) → Comes k residue_machine e h w → Progress f 2 w a
   progress_none w c = record { past = h; text = []; comes = c; given = given_none held a; goes_on = λ fs left more x y. (fs, x, y) }
 
   pub progress_more : (at line rest : Field) (i : ℕ) (v w : View ResidueEngine) (b c : K) (p : Progress at i v b) → Split 10 at line rest →
-      (g : History) (t : List ℕ) → AnsweredLine k (residue_machine.meaning e) i line p.past g t → Comes k residue_machine e g w → Given held b c t → Progress rest (i + 1) w c
+      (g : History) (t : List ℕ) → AnsweredLine k (meaning_of e) i line p.past g t → Comes k residue_machine e g w → Given held b c t → Progress rest (i + 1) w c
   progress_more at line rest i v w b c p split g t answered comes given = record {
     past = g;
     text = p.text ++ t;
@@ -76,13 +76,13 @@ module _ {K : Type 0} (held : K → Option (List ℕ)) (k : Setting) (e : Residu
     given = given_then held a b c p.text t p.given given;
     goes_on = λ fs left more x y.
         let q = p.goes_on (line ∷ fs) left (t ++ more) (rest, split, x) (g, (t, (more, answered, y, refl))) in
-        (q.0, q.1, subst (λ u. Lists k (residue_machine.meaning e) 2 q.0 (bytes left) h u) (sym (append_assoc p.text t more)) q.2);
+        (q.0, q.1, subst (λ u. Lists k (meaning_of e) 2 q.0 (bytes left) h u) (sym (append_assoc p.text t more)) q.2);
   }
 
   -- at the end of the sheet
   pub progress_end : (at : Field) (i : ℕ) (w : View ResidueEngine) (b c : K) (p : Progress at i w b) → Free 10 (bytes at) →
-      (t : List ℕ) → Lists k (residue_machine.meaning e) i [] (bytes at) p.past t → Given held b c t →
-      (g : History) × ((s : List ℕ) × Goes_on k (residue_machine.meaning e) 2 f h s × Comes k residue_machine e g w × Given held a c s)
+      (t : List ℕ) → Lists k (meaning_of e) i [] (bytes at) p.past t → Given held b c t →
+      (g : History) × ((s : List ℕ) × Goes_on k (meaning_of e) 2 f h s × Comes k residue_machine e g w × Given held a c s)
   progress_end at i w b c p free t ends given =
       let q = p.goes_on [] at t (refl, refl) ends in
       (p.past, (p.text ++ t, (q.0, (at, q.1, free, q.2)), p.comes, given_then held a b c p.text t p.given given))

@@ -1,5 +1,5 @@
 -- What the answers to calls have in common.
-use Rattle.std.proofs.Common.{◌≡◌, ℕ, ◌≤◌, Bool, true, false, cond, length, ℤ, Some, None, Ok, Err, Option, Result, sym, refl, subst, arith, MatchResult}
+use Rattle.std.proofs.Common.{◌≡◌, ℕ, ◌≤◌, Bool, true, false, cond, List, [], ◌∷◌, length, ℤ, Some, None, Ok, Err, Option, Result, sym, refl, subst, arith, MatchOption, MatchResult}
 use Rattle.ring.specs.Elem.{Elem}
 use Rattle.numbers.specs.Meaning.{short}
 use Rattle.numbers.specs.declared.elements.Element.{Element}
@@ -9,13 +9,16 @@ use Rattle.rules.specs.Views.{Setting, Machine, EngineRing, View}
 use Rattle.rules.specs.Told.{Puts, Takes, Down, DownPut, answer, Tells}
 use Rattle.rules.specs.History.{History, accepted, Answered}
 use Rattle.rules.specs.Comes.{event}
+use Rattle.engine.specs.Meaning.{Meaning}
+use Rattle.engine.specs.declared.Point.{Point}
+use Rattle.rules.specs.declared.calls.Event.{Event}
 use Rattle.rules.specs.declared.calls.Standing.{Standing}
 use Rattle.rules.specs.declared.calls.Answer.{Answer}
 use Rattle.rules.specs.declared.calls.Answer.TheVariants as answers
 use Rattle.rules.specs.declared.calls.Call.{Call}
 use Rattle.rules.specs.declared.calls.Call.TheVariants as call
 use Rattle.replies.specs.Reply.{Counted}
-use Rattle.transcript.specs.Transcript.{loaded}
+use Rattle.transcript.specs.Transcript.{ticked, loaded, Runs, Follows}
 
 -- the number of digits held that a call answers is small
 module _ {E C : Type 0} (k : Setting) (M : Machine E C) (v w : View E) (few : length v.digits ≤ 128) where
@@ -89,3 +92,13 @@ module _ (k : Setting) (m : EngineRing) (h : History) (s : Standing) where
   loads_nothing (call.Load z) (answers.Refused n) x not = refl
   loads_nothing call.Tick a x not = none_either (accepted a)
   loads_nothing call.Abandon a x not = none_either (accepted a)
+
+-- what comes behind an answer: the run of the element that it loads, or nothing
+module _ (k : Setting) (m : Meaning Point) (h : History) (x : Event) where
+  pub follows_run : (z : Elem) (ds : List Elem) (text : List ℕ) → loaded x ≡ Some z → Runs k m h z ds text → Follows k m h x (ticked ds (x ∷ h)) text
+  follows_run z ds text is runs = subst (λ o. MatchOption o ((ticked ds (x ∷ h) ≡ x ∷ h) × (text ≡ [])) (λ y. (es : List Elem) × Runs k m h y es text × (ticked ds (x ∷ h) ≡ ticked es (x ∷ h)))) (sym is) (ds, runs, refl)
+
+  pub follows_nothing : loaded x ≡ None → Follows k m h x (x ∷ h) []
+  follows_nothing is =
+      let none : List ℕ = [] in
+      subst (λ o. MatchOption o ((x ∷ h ≡ x ∷ h) × (none ≡ [])) (λ y. (es : List Elem) × Runs k m h y es none × (x ∷ h ≡ ticked es (x ∷ h)))) (sym is) (refl, refl)

@@ -3,7 +3,7 @@ use Rattle.std.specs.Prelude.{◌≡◌, ℕ, ◌≤◌, Bool, true, List, ◌�
 use Rattle.ring.specs.Elem.{Elem}
 use Rattle.engine.specs.Meaning.{Meaning}
 use Rattle.engine.specs.declared.Point.{Point}
-use Rattle.residue.specs.Made.{residue_machine}
+use Rattle.residue.specs.Made.{residue_machine, meaning_of}
 use Rattle.residue.specs.declared.ResidueEngine.{ResidueEngine}
 use Rattle.rules.specs.Views.{Setting, View}
 use Rattle.rules.specs.History.{History, cleared, stood}
@@ -34,7 +34,7 @@ module _ {K : Type 0} (held : K → Option (List ℕ)) (k : Setting) (v w : View
   -- of every history h that v comes from: w comes from a history g, and the sink was given a text, that P ties to h
   abbrev pub Serves : (Meaning Point → History → History → List ℕ → Type 0) → Type 0
   Serves P = (e : ResidueEngine) (h : History) → Comes k residue_machine e h v →
-      (g : History) × ((text : List ℕ) × P (residue_machine.meaning e) h g text × Comes k residue_machine e g w × Given held a b text)
+      (g : History) × ((text : List ℕ) × P (meaning_of e) h g text × Comes k residue_machine e g w × Given held a b text)
 
   -- of the history h: a run is on, and one tick is made and printed
   pub record Ticked (e : ResidueEngine) (h : History) : Type 0 where
@@ -58,4 +58,4 @@ module _ {K : Type 0} (held : K → Option (List ℕ)) (k : Setting) (v w : View
   -- of every history that ends with the load of an element: its run is made to its end
   abbrev pub RunsOut : Type 0
   RunsOut = (e : ResidueEngine) (h : History) (x : Event) (z : Elem) → loaded x ≡ Some z → Comes k residue_machine e (x ∷ h) v →
-      (ds : List Elem) × ((text : List ℕ) × Runs k (residue_machine.meaning e) h z ds text × Comes k residue_machine e (ticked ds (x ∷ h)) w × Given held a b text)
+      (ds : List Elem) × ((text : List ℕ) × Runs k (meaning_of e) h z ds text × Comes k residue_machine e (ticked ds (x ∷ h)) w × Given held a b text)

@@ -25,6 +25,7 @@ pub struct Rest<'a> {
 pub fn follow<S: NumberSystem, K: Sink>(unit: &mut Unit<S, ResidueEngine>, rest: Rest, out: &mut K)
     ensures { Serves K.held (setting S.ring S.WIDEST S.Kind.LOADING S.Kind.WORKING) (view S.Kind.value unit.old) (view S.Kind.value unit.new) out.old out.new (λ m h g text. Goes_on (setting S.ring S.WIDEST S.Kind.LOADING S.Kind.WORKING) m 2 rest.entry.lines h text) }
 {
+    // Counted by hand: each line is cut from what the one before it left, and a refusal tells its number.
     let mut left = rest.lines;
     let mut number: u32 = 2;
     loop {

@@ -7,4 +7,4 @@ mod following;
 mod opening;
 mod running;
 
-pub use opening::transcribe;
+pub use opening::{listing_of, transcribe};

@@ -1,5 +1,5 @@
 // A whole sheet, from its first line on.
-ghost use Rattle.std.specs.Prelude.{◌≡◌, ℕ, List, MatchResult, pos};
+ghost use Rattle.std.specs.Prelude.{◌≡◌, ℕ, IfOk, List, MatchResult, pos, vec_items};
 ghost use Rattle.listing.specs.Lines.{text_of};
 ghost use Rattle.unit.specs.Seen.{setting};
 ghost use Rattle.residue.specs.Made.{Made};
@@ -16,10 +16,12 @@ use refusals::Refusal;
 use replies::asking::{Choice, chosen};
 use replies::printing::print;
 use replies::sink::Sink;
+use replies::text::Text;
 use residue::ResidueEngine;
 use sheet::cutting::next_line;
 use sheet::field::Field;
 use sheet::line::System;
+use std::alloc::{AllocError, Global};
 use systems::{G5, KM, KP};
 use unit::unit::Unit;
 
@@ -94,4 +96,13 @@ pub fn transcribe<K: Sink>(sheet: &[u8], out: &mut K)
         Ok((choice, rest)) => open(choice, rest, out),
         Err(refused) => print(out, refused),
     }
+}
+
+// The listing of a sheet in memory of its own, or that there is not enough.
+pub fn listing_of(heap: Global, sheet: &[u8]) -> Result<Vec<u8>, AllocError>
+    ensures { IfOk result (λ v. Listing sheet.now (vec_items v)) }
+{
+    let mut listing = Text::new(heap);
+    transcribe(sheet, &mut listing);
+    listing.into_bytes()
 }

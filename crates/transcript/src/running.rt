@@ -4,7 +4,7 @@ ghost use Rattle.unit.specs.Seen.{setting, view};
 ghost use Rattle.transcript.specs.Serving.{TicksOut, RunsOut};
 
 use listing::Line;
-use numbers::{Asks, Coordinate, NumberSystem, Ruled};
+use numbers::{Asks, Coordinate, Element, NumberSystem, Ruled};
 use replies::printing::print;
 use replies::sink::Sink;
 use residue::ResidueEngine;
@@ -19,16 +19,10 @@ fn tick_out<S: NumberSystem, K: Sink>(unit: &mut Unit<S, ResidueEngine>, out: &m
     if unit.standing() != Standing::Running {
         return false;
     }
-    let Answer::Digit(digit) = unit.perform(Call::Tick) else {
+    let Answer::Digit(Element { x, y }) = unit.perform(Call::Tick) else {
         return false;
     };
-    print(
-        out,
-        Line::Tick {
-            x: digit.x,
-            y: digit.y,
-        },
-    );
+    print(out, Line::Tick { x, y });
     true
 }
 
@@ -37,6 +31,7 @@ pub fn run_out<S: NumberSystem, K: Sink>(unit: &mut Unit<S, ResidueEngine>, out:
     ensures { RunsOut K.held (setting S.ring S.WIDEST S.Kind.LOADING S.Kind.WORKING) (view S.Kind.value unit.old) (view S.Kind.value unit.new) out.old out.new }
 {
     let mut ticks = unit.ticks();
+    // The count is read in every turn: a count that was read is known to be below 2^32, which bounds the turns.
     while tick_out(unit, out) {
         ticks = unit.ticks();
     }
