@@ -15,6 +15,7 @@ use rules::calls::{Answer, Call};
 use sheet::field::Field;
 use unit::unit::Unit;
 
+// Here and below the unit and the sink go together as two references: a struct of both would be made anew at each of the five functions, and its clauses would name the same two.
 // Makes a call of line `number` and prints its answer; behind the answer to a load, the whole run.
 fn answer_call<S: NumberSystem, K: Sink>(
     unit: &mut Unit<S, ResidueEngine>,
