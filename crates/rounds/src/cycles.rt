@@ -7,6 +7,7 @@ ghost use Rattle.numbers.specs.Meaning.{short};
 ghost use Rattle.rounds.specs.Rounds.{after, Falls, CycleAt, LeadIs, Runs};
 
 use crate::dynamics::Dynamics;
+use crate::order::before;
 use crate::trail::Trail;
 use numbers::Element;
 
@@ -30,7 +31,7 @@ impl<'d, D: Dynamics> Trail<'d, D> {
         requires { size (D.ring self.now.map.now) (short z) ≤ D.cap self.now.map.now }
         ensures { Decides result (Before (D.ring self.now.map.now) (short z) (short self.now.first.element)) }
     {
-        self.map.rank(z).precedes(self.first)
+        before(self.map, z, self.first)
     }
 
     // Follows the trail until it comes to an element before its first one, or returns, by Brent's method: the mark stands at index power − 1, and `gone` counts the steps from it.

@@ -9,5 +9,5 @@ mod trail;
 
 pub use cycles::{Cycle, Orbit};
 pub use dynamics::Dynamics;
-pub use order::Ranked;
+pub use order::{Ranked, before};
 pub use trail::Trail;

@@ -1,9 +1,12 @@
 // The order in which elements are looked at: by norm, then x, then y.
 
-ghost use Rattle.std.specs.Prelude.{Decides};
+ghost use Rattle.std.specs.Prelude.{◌≡◌, ◌≤◌, Decides};
+ghost use Rattle.ring.specs.System.{size};
+ghost use Rattle.ring.specs.Verdict.{Before};
 ghost use Rattle.numbers.specs.Meaning.{short};
 ghost use Rattle.rounds.specs.Order.{Ordered};
 
+use crate::dynamics::Dynamics;
 use numbers::Element;
 
 // An element with its norm. Such are in order by norm, then x, then y.
@@ -21,4 +24,13 @@ impl Ranked {
     {
         self.norm <= other.norm && self < other
     }
+}
+
+// Whether a comes before b, which is of any norm.
+pub fn before<D: Dynamics>(map: &D, a: Element<i32>, b: Ranked) -> bool
+    requires inside { size (D.ring map.now) (short a) ≤ D.cap map.now }
+    requires is { b.norm ≡ size (D.ring map.now) (short b.element) }
+    ensures { Decides result (Before (D.ring map.now) (short a) (short b.element)) }
+{
+    map.rank(a).precedes(b)
 }
