@@ -3,9 +3,11 @@ use Rattle.std.specs.Prelude.{Option, None, Some, MatchOption}
 use Rattle.std.specs.Option.{is_some}
 use Rattle.std.proofs.lemmas.Option.{none-some}
 use mathlib.Core.Bool.{false≢true}
-use Rattle.std.proofs.Common.{◌≡◌, Bool, true, false, Decides, ℕ, zero, suc, ◌<◌, ◌≤◌, List, [], ◌∷◌, ◌++◌, length, get_or, take, drop, ℤ, sym, ap, ap₂, ◌∙◌, subst, arith, w64, SFits, to_z, of_z}
-use Rattle.std.specs.List.{AllWithin, ContainsAt as Has, HoldsAt, remove}
-use Rattle.std.proofs.lemmas.List.{length-map, length-take-le, get_or_default, get_or-take, map-append, take-map, drop-map}
+use Rattle.std.proofs.Common.{◌≡◌, Bool, true, false, Decides, ℕ, zero, suc, ◌+◌, ◌-◌, ◌<◌, ◌≤◌, List, [], ◌∷◌, ◌++◌, length, get_or, take, drop, set, ℤ, sym, ap, ap₂, ◌∙◌, subst, arith, w64, SFits, to_z, of_z, length-drop, add-one}
+use Rattle.std.specs.List.{AllWithin, ContainsAt as Has, HoldsAt, copy_within, remove}
+use Rattle.std.proofs.lemmas.List.{length-map, length-take-le, get_or_default, get_or-take, map-append, take-map, take-take, drop-map, take_more_set}
+use Rattle.std.proofs.lemmas.List.Edits.{take-paste}
+use Rattle.std.proofs.lemmas.Slice.{between_is}
 use Rattle.std.proofs.ByRecursion.{has_get_or}
 use Rattle.std.proofs.lemmas.Int.{to_z-of_z}
 use Rattle.ring.specs.Elem.{Elem, 𝟘}
@@ -29,6 +31,9 @@ front t n k l = ap (λ ds. get_or ds k 𝟘) (sym (take-map elem_of n t)) ∙ ge
 pub front_has : (t : List Digit) (n k : ℕ) → k < n → n ≤ length t → Has (elems (take n t)) (get_or (elems t) k 𝟘)
 front_has t n k l h = subst (Has (elems (take n t))) (front t n k l) (has_get_or (elems (take n t)) k 𝟘 (omega (arith, numbered t n h)))
 
+pub number : (s : DigitSet) → length (held s) ≡ s.count
+number s = numbered s.table s.count (omega (arith, s.whole, s.most))
+
 -- digits are in range
 in_range : (ds : List Digit) (k : ℕ) → k < length (elems ds) → InRange (get_or (elems ds) k 𝟘)
 in_range [] k l = absurd (omega arith)
@@ -36,7 +41,7 @@ in_range (d ∷ ds) zero l = record { in_x = d.ranged.0; in_y = d.ranged.1 }
 in_range (d ∷ ds) (suc k) l = in_range ds k (omega arith)
 
 pub held_ranged : (s : DigitSet) (z : Elem) → Has (held s) z → InRange z
-held_ranged s z h = subst InRange (h.2 𝟘) (in_range s.digits.items h.0 h.1)
+held_ranged s z h = subst InRange (h.2 𝟘) (in_range (take s.count s.table) h.0 h.1)
 
 pub different_push : (ds : List Elem) (z : Elem) → Different ds → (Has ds z → ⊥) → Different (ds ++ z ∷ [])
 different_push ds z h f = any2_push (λ a b. a ≡ b → ⊥) ds z h (λ k l e. f (subst (Has ds) e (has_get_or ds k 𝟘 l)))
@@ -44,13 +49,26 @@ different_push ds z h f = any2_push (λ a b. a ≡ b → ⊥) ds z h (λ k l e. 
 pub different_removed : (ds : List Elem) (k : ℕ) → k < length ds → Different ds → Different (remove ds k)
 different_removed = any2_removed (λ a b. a ≡ b → ⊥)
 
--- the elements of digits with one more
-pub more : (ds : List Digit) (d : Digit) (es : List Digit) → es ≡ ds ++ d ∷ [] → elems es ≡ elems ds ++ elem_of d ∷ []
-more ds d es e = ap elems e ∙ map-append elem_of ds (d ∷ [])
+-- one more: t is the table with d at the first free place
+pub pushed : (s : DigitSet) (t : List Digit) (d : Digit) → s.count < 128 → t ≡ set s.table s.count d → elems (take (s.count + 1) t) ≡ held s ++ elem_of d ∷ []
+pushed s t d l e = ap (λ x. elems (take (s.count + 1) x)) e ∙ ap elems (take_more_set s.table s.count d (omega (arith, s.whole))) ∙ map-append elem_of (take s.count s.table) (d ∷ [])
 
--- and with one taken out
-pub less : (ds : List Digit) (k : ℕ) → elems (remove ds k) ≡ remove (elems ds) k
+-- the elements of digits with one taken out
+less : (ds : List Digit) (k : ℕ) → elems (remove ds k) ≡ remove (elems ds) k
 less ds k = map-append elem_of (take k ds) (drop (suc k) ds) ∙ ap₂ (λ (a b : List Elem). a ++ b) (sym (take-map elem_of k ds)) (sym (drop-map elem_of (suc k) ds))
+
+-- one less: t is the table with the places behind k moved down
+pub removed : (s : DigitSet) (t : List Digit) (k : ℕ) → k < s.count → t ≡ copy_within s.table (k + 1) s.count k → elems (take (s.count - 1) t) ≡ remove (held s) k
+removed s t k l e =
+    let n = s.count in
+    let ds = take n s.table in
+    let h : n ≤ length s.table = omega (arith, s.whole, s.most) in
+    let low : n - 1 ≡ k + (n - (k + 1)) = omega arith in
+    let left : take (n - 1) t ≡ remove ds k =
+    ap₂ (λ (m : ℕ) (x : List Digit). take m x) low e
+    ∙ take-paste s.table k (drop (k + 1) s.table) (n - (k + 1)) (omega arith) (omega (arith, length-drop (k + 1) s.table))
+    ∙ ap₂ (λ (a b : List Digit). a ++ b) (sym (take-take k n s.table (omega arith))) (between_is s.table (k + 1) n ∙ ap (λ (j : ℕ). drop j ds) (add-one k)) in
+    ap elems left ∙ less ds k
 
 -- the place of z, or that it is not held
 pub placed : (z : Elem) (ds : List Digit) (r : Option ℕ) →

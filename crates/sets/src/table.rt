@@ -1,8 +1,7 @@
-ghost use Rattle.std.specs.Prelude.{◌≤◌, length};
+ghost use Rattle.std.specs.Prelude.{◌≡◌, ◌≤◌, length, take};
 ghost use Rattle.digits.specs.Digits.{elems};
 ghost use Rattle.sets.specs.Lists.{Different};
 
-use arrayvec::ArrayVec;
 use digits::digit::Digit;
 use digits::width::Width;
 
@@ -11,11 +10,14 @@ pub mod changes;
 pub mod fullness;
 
 // At most 128 digits, none twice, and a width. That their classes differ depends on the system, and is not said here.
-// The digits stand in the set itself: nothing is allocated, and nothing can be refused for want of memory.
-#[derive(Drop)]
+// The digits are the first places of a table that stands in the set itself: nothing is allocated, and nothing can be refused for want of memory.
+// No == is derived: it would compare the places behind the digits too, where taking one away leaves what stood there.
+#[derive(Clone, Copy, Debug)]
 pub struct DigitSet {
-    digits: ArrayVec<Digit, 128>,
+    table: [Digit; 128],
+    count: usize,
     width: Width,
-    ghost most: { length digits.items ≤ 128 },
-    ghost once: { Different (elems digits.items) },
+    ghost whole: { length table ≡ 128 },
+    ghost most: { count ≤ 128 },
+    ghost once: { Different (elems (take count table)) },
 }

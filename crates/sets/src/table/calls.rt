@@ -5,7 +5,6 @@ ghost use Rattle.digits.specs.Digits.{elem_of, elems};
 ghost use Rattle.sets.specs.Held.{held, width_of};
 
 use crate::table::DigitSet;
-use arrayvec::ArrayVec;
 use digits::digit::Digit;
 use digits::numeration::Numeration;
 use digits::width::Width;
@@ -17,7 +16,8 @@ impl DigitSet {
         ensures wide { width_of result ≡ width.places }
     {
         DigitSet {
-            digits: ArrayVec::new(),
+            table: [Digit::none(); 128],
+            count: 0,
             width,
         }
     }
@@ -27,7 +27,7 @@ impl DigitSet {
         ensures is { result ≡ length (held self.now) }
         ensures most { result ≤ 128 }
     {
-        self.digits.len()
+        self.count
     }
 
     // The width.
@@ -41,7 +41,7 @@ impl DigitSet {
     pub fn as_slice(&self) -> &[Digit]
         ensures { elems result.now ≡ held self.now }
     {
-        self.digits.as_slice()
+        &self.table[..self.count]
     }
 
     // The digits and the width, with a system: what recoding goes by.

@@ -11,6 +11,9 @@ use digits::digit::Digit;
 use numbers::Asks;
 use refusals::Refusal;
 
+// The number of digits that a set has room for.
+const ROOM: usize = 128;
+
 impl DigitSet {
     // One more at the end.
     fn push(&mut self, digit: Digit) -> usize
@@ -18,8 +21,9 @@ impl DigitSet {
         requires other { Has (held self.old) (elem_of digit) → ⊥ }
         ensures { Added self.old self.new (elem_of digit) result }
     {
-        self.digits.push(digit);
-        self.digits.len()
+        self.table[self.count] = digit;
+        self.count += 1;
+        self.count
     }
 
     // Takes out what stands at a place, and moves the later ones down.
@@ -29,8 +33,9 @@ impl DigitSet {
         ensures width { width_of self.new ≡ width_of self.old }
         ensures number { result ≡ length (held self.new) }
     {
-        self.digits.remove(place);
-        self.digits.len()
+        self.table.copy_within(place + 1..self.count, place);
+        self.count -= 1;
+        self.count
     }
 
     // Whether a digit of this one's class is held.
@@ -49,7 +54,7 @@ impl DigitSet {
         if system.divides(&digit.element()) {
             return Err(Refusal::Even);
         }
-        if self.has_class(system, digit) || self.digits.is_full() {
+        if self.has_class(system, digit) || self.len() == ROOM {
             return Err(Refusal::Doubled);
         }
         Ok(self.push(digit))

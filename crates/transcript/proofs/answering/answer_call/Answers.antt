@@ -1,6 +1,6 @@
 use Rattle.std.proofs.Common.{◌≡◌, ◌≤◌, [], ◌∷◌, ◌++◌, length, sym, refl, append-nil, arith, rules}
 use Rattle.sets.specs.Held.{held}
-use Rattle.digits.proofs.Listed.{length_elems}
+use Rattle.sets.proofs.Holding.{number}
 use Rattle.rules.specs.Views.{ring_of}
 use Rattle.rules.specs.History.{Answered}
 use Rattle.rules.specs.Comes.{event}
@@ -19,7 +19,7 @@ answer-requires g c =
     let v = view g.S.Kind.Coordinate.value c.args.unit.now in
     let w = view g.S.Kind.Coordinate.value c.perform-answer.new.self in
     let set = c.args.unit.now.set in
-    let few : length (held set) ≤ 128 = omega (arith, set.most, length_elems set.digits.items) in
+    let few : length (held set) ≤ 128 = omega (arith, number set, set.most) in
     counted k residue_machine v w few c.args.call c.perform-answer.result c.perform-answer.ensures.told
 
 pub returns-then-eq : goal.returns-then-eq

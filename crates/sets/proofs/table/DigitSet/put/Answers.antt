@@ -2,8 +2,6 @@ use Rattle.std.proofs.lemmas.Result.{err_from_is_err_and}
 use Rattle.refusals.specs.declared.Refusal.TheVariants.{Range}
 use Rattle.std.proofs.Common.{◌≡◌, None, Some, false, sym, refl, ◌∙◌, subst, inl, inr, arith}
 use Rattle.std.proofs.lemmas.Bool.{both_ways}
-use Rattle.std.proofs.lemmas.Bool.Decides.{Decides-eqb}
-use Rattle.digits.proofs.Listed.{length_elems}
 use Rattle.std.specs.List.{ContainsAt as Has}
 use Rattle.ring.specs.Elem.{Elem}
 use Rattle.ring.specs.Class.{Even, InRange, Classed}
@@ -14,7 +12,7 @@ use Rattle.sets.proofs.Holding.{made, not_made}
 use Rattle.sets.proofs.Distinct.{own_class}
 use Rattle.sets.proofs.table.DigitSet.put.Given as given
 use Rattle.sets.proofs.table.DigitSet.put.Goals as goal
-use Rattle.sets.proofs.table.DigitSet.put.Goals.{After-has_class, then-has_class-via-then-has_class, then-has_class-via-else-has_class+then-is_full}
+use Rattle.sets.proofs.table.DigitSet.put.Goals.{After-has_class, then-has_class-via-then-has_class, then-has_class-via-else-has_class+then-len-eq-ROOM}
 
 -- the element of the digit, and what the first two tests leave
 module _ (g : given.Over) (c : goal.After-has_class g) where
@@ -57,7 +55,7 @@ returns-then-has_class g c =
     let w = c.args.self.now.width.places in
     elim c.then-has_class.branch [
       | then-has_class-via-then-has_class v ↦ (inr (ranged g a, inr (odd g a, inl (subst (Classed s w (Has (held c.args.self.now))) (is g a) (c.has_class.ensures.0 v.if-has_class.true), refl))), refl)
-      | then-has_class-via-else-has_class+then-is_full v ↦ (inr (ranged g a, inr (odd g a, inr (new g a v.if-has_class.false, inl (let n = (Decides-eqb _ _).0 (sym v.is_full.ensures.value ∙ v.if-is_full.true) in omega (arith, n, length_elems c.args.self.now.digits.items), refl)))), refl)
+      | then-has_class-via-else-has_class+then-len-eq-ROOM v ↦ (inr (ranged g a, inr (odd g a, inr (new g a v.if-has_class.false, inl (omega (arith, v.len.ensures.is, v.if-len-eq-ROOM.true), refl)))), refl)
     ]
 
 pub push-requires-clause-other : goal.push-requires-clause-other
@@ -67,4 +65,4 @@ pub returns : goal.returns
 unfolding Puttable
 returns g c =
     let a = (goal.at.returns g c).After-has_class in
-    ((ranged g a, (odd g a, (new g a c.if-has_class.false, (λ h. both_ways c.is_full.result c.if-is_full.false (c.is_full.ensures.value ∙ (Decides-eqb _ _).1 (omega (arith, h, length_elems c.args.self.now.digits.items, c.is_full.ensures.fits))), tt)))), subst (λ e. Added c.args.self.now c.push.new.self e c.push.result) (is g a) c.push.ensures)
+    ((ranged g a, (odd g a, (new g a c.if-has_class.false, (λ h. c.if-len-eq-ROOM.false (omega (arith, c.len.ensures.is, c.len.ensures.most)), tt)))), subst (λ e. Added c.args.self.now c.push.new.self e c.push.result) (is g a) c.push.ensures)
