@@ -1,5 +1,6 @@
 // What a line of a sheet asks for.
 ghost use Rattle.std.specs.Prelude.{◌≡◌, ℕ, ◌^◌, ◌<◌, MatchOption};
+ghost use Rattle.sheet.specs.Parting.{Within};
 ghost use Rattle.sheet.specs.declared.line.System.{System as Name};
 ghost use Rattle.rules.specs.declared.calls.Call.{Call as Asked};
 ghost use Rattle.replies.specs.Asked.{Asks, Calls, Chosen, Chooses};
@@ -41,6 +42,7 @@ fn call_of(line: Line) -> Option<Call>
 
 // The call that the field asks for as a line of a sheet.
 pub fn asked(f: Field) -> Option<Call>
+    requires { Within f }
     ensures { MatchOption result ((c : Asked) → ¬ (Asks f.entry c)) (λ c. Asks f.entry c) }
 {
     call_of(read_line(f).ok()?)
@@ -68,6 +70,7 @@ fn choice_of(line: Line) -> Option<Choice>
 
 // What the field chooses as the first line of a sheet.
 pub fn chosen(f: Field) -> Option<Choice>
+    requires { Within f }
     ensures { MatchOption result ((t : Name) (m r g : ℕ) → ¬ (Chosen f.entry t m r g)) (λ q. Chosen f.entry q.system q.modulus q.root q.start) }
 {
     choice_of(read_line(f).ok()?)

@@ -1,11 +1,15 @@
 -- How a sheet is cut into lines, and a line into fields.
-use Rattle.std.specs.Prelude.{◌≡◌, ℕ, ◌+◌, ◌<◌, List, [], ◌∷◌, ◌++◌, length, Some, None, Option, Ok, Err, Result, ◌≢◌, slice_index}
+use Rattle.std.specs.Prelude.{◌≡◌, ℕ, ◌+◌, ◌^◌, ◌<◌, List, [], ◌∷◌, ◌++◌, length, Some, None, Option, Ok, Err, Result, ◌≢◌, slice_index}
 use Rattle.refusals.specs.declared.Refusal.{Refusal}
 use Rattle.refusals.specs.declared.Refusal.TheVariants as refusal
 use Rattle.sheet.specs.declared.field.Field.{Field}
 
 abbrev pub bytes : Field → List ℕ
 bytes f = f.text.now
+
+-- f ends at a place that can be told
+abbrev pub Within : Field → Type 0
+Within f = f.place + length (bytes f) < 2 ^ 64
 
 -- the byte b does not stand in s
 abbrev pub Free : ℕ → List ℕ → Type 0

@@ -1,23 +1,19 @@
 // The parts of a sheet.
 
-ghost use Rattle.std.specs.Prelude.{ℕ, ◌+◌, ◌^◌, ◌<◌, length};
+ghost use Rattle.std.specs.Prelude.{◌≡◌, MatchOption};
+ghost use Rattle.sheet.specs.Parting.{bytes, Within, Free, Split};
 
 // A part of a sheet, and the place of its first byte in the sheet.
 #[derive(Clone, Copy, Debug, PartialEq, Eq)]
 pub struct Field<'a> {
     pub text: &'a [u8],
     pub place: usize,
-    // It ends at a place that can be told.
-    ghost within: { place + length text.now < 2 ^ 64 },
 }
 
 impl<'a> Field<'a> {
-    ghost use Rattle.std.specs.Prelude.{◌≡◌, MatchOption};
-    ghost use Rattle.sheet.specs.Parting.{bytes, Free, Split};
-
     // The whole sheet.
     pub fn whole(sheet: &'a [u8]) -> Field<'a>
-        ensures { (bytes result ≡ sheet.now) × (result.place ≡ 0) }
+        ensures { (bytes result ≡ sheet.now) × (result.place ≡ 0) × Within result }
     {
         Field {
             text: sheet,
@@ -27,6 +23,7 @@ impl<'a> Field<'a> {
 
     // The part before the first such byte, and the part behind it.
     pub fn split(self, byte: u8) -> Option<(Field<'a>, Field<'a>)>
+        requires { Within self }
         ensures { MatchOption result (Free byte (bytes self.entry)) (λ q. Split byte self.entry q.0 q.1) }
     {
         let k = self.text.iter().position(|b| *b == byte)?;

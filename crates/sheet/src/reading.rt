@@ -2,7 +2,7 @@
 
 ghost use Rattle.std.specs.Prelude.{◌≡◌, [], ◌∷◌, MatchOption, MatchResult, ◌≢◌};
 ghost use Rattle.sheet.specs.declared.field.Field.{Field};
-ghost use Rattle.sheet.specs.Parting.{bytes};
+ghost use Rattle.sheet.specs.Parting.{bytes, Within};
 ghost use Rattle.sheet.specs.Shape.{Parts, Numbers, Body, Shape, OneShape, name_of};
 
 use crate::field::Field;
@@ -13,6 +13,7 @@ use refusals::Refusal;
 
 // Two numbers parted by a comma.
 fn pair<'a, N: Numeral>(f: Field<'a>) -> Option<(Number<'a, N>, Number<'a, N>)>
+    requires { Within f }
     ensures { MatchOption result ((a b : Field) → Numbers N.denotes f.entry.place (bytes f.entry) (a ∷ b ∷ []) → ⊥) (λ q. Parts f.entry.place (bytes f.entry) (q.0.field ∷ q.1.field ∷ [])) }
 {
     let (x, y) = f.split(b',')?;
@@ -21,6 +22,7 @@ fn pair<'a, N: Numeral>(f: Field<'a>) -> Option<(Number<'a, N>, Number<'a, N>)>
 
 // Three numbers parted by commas.
 fn triple<'a, N: Numeral>(f: Field<'a>) -> Option<(Number<'a, N>, Number<'a, N>, Number<'a, N>)>
+    requires { Within f }
     ensures { MatchOption result ((a b c : Field) → Numbers N.denotes f.entry.place (bytes f.entry) (a ∷ b ∷ c ∷ []) → ⊥) (λ q. Parts f.entry.place (bytes f.entry) (q.0.field ∷ q.1.field ∷ q.2.field ∷ [])) }
 {
     let (x, rest) = f.split(b',')?;
@@ -43,6 +45,7 @@ fn system_named(name: &[u8]) -> Option<System>
 
 // The name of a system, a comma, and three numbers.
 fn system<'a>(f: Field<'a>) -> Option<Line<'a>>
+    requires { Within f }
     ensures { MatchOption result ((l : Line) → Body 83 f.entry.place (bytes f.entry) l → ⊥) (λ l. Body 83 f.entry.place (bytes f.entry) l) }
 {
     let (name, numbers) = f.split(b',')?;
@@ -58,6 +61,7 @@ fn system<'a>(f: Field<'a>) -> Option<Line<'a>>
 
 // What stands behind a letter and its comma.
 fn body<'a>(letter: char, f: Field<'a>) -> Option<Line<'a>>
+    requires { Within f }
     ensures { MatchOption result ((l : Line) → Body letter f.entry.place (bytes f.entry) l → ⊥) (λ l. Body letter f.entry.place (bytes f.entry) l) }
 {
     match letter {
@@ -72,6 +76,7 @@ fn body<'a>(letter: char, f: Field<'a>) -> Option<Line<'a>>
 
 // The line that the field is.
 pub fn read_line<'a>(f: Field<'a>) -> Result<Line<'a>, Refusal>
+    requires { Within f }
     ensures { MatchResult result (λ l. Shape f.entry.place (bytes f.entry) l) (λ e. (e ≡ Refusal.Line) × ((l : Line) → Shape f.entry.place (bytes f.entry) l → ⊥)) }
 {
     match f.text {

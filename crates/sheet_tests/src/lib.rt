@@ -5,6 +5,8 @@
 #[cfg(test)]
 mod tests {
     use refusals::Refusal;
+    use replies::sink::Sink;
+    use replies::text::Text;
     use sheet::cutting::next_line;
     use sheet::field::Field;
     use sheet::line::Line;
@@ -115,6 +117,17 @@ mod tests {
         assert!(rt; matches!(n, Ok(6)));
         assert_eq!(rt; &buf[0..6], b"N,e,1\n".as_slice());
         assert!(rt; listing::Line::Load.write(&mut buf[0..79]).is_err());
+    }
+
+    #[test]
+    fn texts(rt: HostRuntime) {
+        let mut text = Text::new(rt.alloc());
+        assert!(rt; text.is_whole());
+        assert_eq!(rt; text.as_slice(), b"".as_slice());
+        text.write(b"S,2\n");
+        text.write(b"W,2\n");
+        assert!(rt; text.is_whole());
+        assert_eq!(rt; text.as_slice(), b"S,2\nW,2\n".as_slice());
     }
 
     #[test]

@@ -1,5 +1,6 @@
 // The answer to one line of a sheet.
 ghost use Rattle.unit.specs.Seen.{setting, view};
+ghost use Rattle.sheet.specs.Parting.{Within};
 ghost use Rattle.transcript.specs.Serving.{Serves};
 ghost use Rattle.transcript.specs.Transcript.{Answers, AnsweredLine};
 
@@ -39,6 +40,7 @@ pub fn answer_line<S: NumberSystem, K: Sink>(
     line: Field,
     out: &mut K,
 )
+    requires { Within line }
     ensures { Serves K.held (setting S.ring S.WIDEST S.Kind.LOADING S.Kind.WORKING) (view S.Kind.value unit.old) (view S.Kind.value unit.new) out.old out.new (λ m h g text. AnsweredLine (setting S.ring S.WIDEST S.Kind.LOADING S.Kind.WORKING) m number line.entry h g text) }
 {
     match asked(line) {

@@ -1,6 +1,7 @@
 // The lines of a sheet behind its first.
 ghost use Rattle.std.specs.Prelude.{◌≤◌, length};
 ghost use Rattle.unit.specs.Seen.{setting, view};
+ghost use Rattle.sheet.specs.Parting.{Within};
 ghost use Rattle.transcript.specs.Serving.{Serves};
 ghost use Rattle.transcript.specs.Transcript.{longest, Goes_on};
 
@@ -18,6 +19,7 @@ use unit::unit::Unit;
 #[derive(Clone, Copy, Debug, PartialEq, Eq)]
 pub struct Rest<'a> {
     pub lines: Field<'a>,
+    ghost within: { Within lines },
     ghost short: { length lines.text.now ≤ longest },
 }
 

@@ -1,5 +1,6 @@
 use Rattle.std.proofs.Common.{◌≡◌, ℕ, List, [], ◌++◌, Some, None, Option, sym, ap, ◌∙◌, subst}
 use Rattle.std.specs.Prelude.{IfOk, IfSome, IsSomeAnd, ok_or, option_map, vec_items}
+use Rattle.std.specs.Result.{result_ok}
 use Rattle.transcript.specs.Transcript.{Listing}
 use Rattle.transcript.proofs.opening.listing_of.Goals as goal
 
@@ -15,4 +16,4 @@ whole items why sheet text (Some s) (Some v) l e g =
 pub returns : goal.returns
 returns c =
     let t = c.transcribe.ensures in
-    subst (λ r. IfOk r (λ v. Listing c.args.sheet.now (vec_items v))) (sym c.into_bytes.ensures) (whole vec_items _ c.args.sheet.now t.0 _ c.transcribe.new.out.bytes t.1 c.new-listing.ensures t.2)
+    subst (λ r. IfOk r (λ v. Listing c.args.sheet.now (vec_items v))) (sym c.into_bytes.ensures) (whole vec_items _ c.args.sheet.now t.0 _ (result_ok c.transcribe.new.out.bytes) t.1 c.new-listing.ensures t.2)
