@@ -12,7 +12,9 @@ const MOST_READ: u64 = 32769;
 fn main(rt: HostRuntime) -> anyhow::Result<()> {
     let mut sheet = Vec::new(rt.alloc());
     rt.stdin().take(MOST_READ).read_to_end(&mut sheet)?;
-    let listing = listing_of(rt.alloc(), &sheet).ok().context("there is no memory for the listing")?;
+    let listing = listing_of(rt.alloc(), &sheet)
+        .ok()
+        .context("there is no memory for the listing")?;
     rt.stdout().write_all(&listing)?;
     Ok(())
 }

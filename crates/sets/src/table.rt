@@ -11,6 +11,7 @@ pub mod fullness;
 
 // At most 128 digits, none twice, and a width. That their classes differ depends on the system, and is not said here.
 // The digits are the first places of a table that stands in the set itself: nothing is allocated, and nothing can be refused for want of memory.
+// A table and a count, and no vector of fixed capacity: that is not copied, and a set is; and nothing but std is trusted under it.
 // No == is derived: it would compare the places behind the digits too, where taking one away leaves what stood there.
 #[derive(Clone, Copy, Debug)]
 pub struct DigitSet {

@@ -4,6 +4,7 @@ ghost use Rattle.std.specs.Prelude.{◌≡◌, MatchOption};
 ghost use Rattle.sheet.specs.Parting.{bytes, Within, Free, Split};
 
 // A part of a sheet, and the place of its first byte in the sheet.
+// That it ends at a place that can be told (`Within`) is asked where places are told, and not by the type: a number is read of any part.
 #[derive(Clone, Copy, Debug, PartialEq, Eq)]
 pub struct Field<'a> {
     pub text: &'a [u8],

@@ -9,7 +9,9 @@ use transcript::listing_of;
 
 fn list(rt: &HostRuntime, name: &str) -> anyhow::Result<()> {
     let sheet = fs::read(rt, name)?;
-    let listing = listing_of(rt.alloc(), &sheet).ok().context("there is no memory for the listing")?;
+    let listing = listing_of(rt.alloc(), &sheet)
+        .ok()
+        .context("there is no memory for the listing")?;
     println!(rt; "== {name}")?;
     rt.stdout().write_all(&listing)?;
     Ok(())
