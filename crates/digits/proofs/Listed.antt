@@ -1,5 +1,5 @@
 -- Digits of a list, by their places.
-use Rattle.std.proofs.Common.{◌≡◌, Bool, true, false, Decides, ℕ, zero, suc, ◌<◌, ◌≤◌, List, [], ◌∷◌, length, get_or, sym, refl, ◌∙◌, subst, arith}
+use Rattle.std.proofs.Common.{◌≡◌, Bool, true, false, Decides, ℕ, zero, suc, ◌<◌, ◌≤◌, List, [], ◌∷◌, length, get_or, option_copied, Bor, sym, refl, ◌∙◌, subst, arith}
 use Rattle.std.specs.Bool.{MatchBool}
 use Rattle.std.specs.Prelude.{Option, None, Some, MatchOption}
 use Rattle.std.specs.List.{AllWithin, HoldsAt}
@@ -47,3 +47,8 @@ module _ (s : System) (w : ℕ) (z : Elem) (ds : List Digit) where
       MatchOption r (Unclassed s w (elems ds) z) (λ d. FirstOf s w (elems ds) z (elem_of d))
   first None h = λ d m a. within (λ e. ¬ (SameClass s w z e)) ds (length ds) (omega arith) h m.0 (omega (arith, m.1, length_elems ds)) (subst (SameClass s w z) (sym (m.2 𝟘)) a)
   first (Some d) (a, i, l, is, none) = (i, omega (arith, l, length_elems ds), elem_at ds d i l (is d), a, within (λ e. ¬ (SameClass s w z e)) ds i (omega arith) none)
+
+-- what holds of the digit that a reference leads to holds of its copy
+pub of_copied : (o : Option (Bor Digit)) (r : Option Digit) (P : Type 0) (Q : Digit → Type 0) → r ≡ option_copied o → MatchOption o P (λ x. Q x.now) → MatchOption r P Q
+of_copied None r P Q e h = subst (λ k. MatchOption k P Q) (sym e) h
+of_copied (Some x) r P Q e h = subst (λ k. MatchOption k P Q) (sym e) h

