@@ -26,7 +26,7 @@ impl<'s, 'd, S: Asks<i32>> Numeration<'s, 'd, S> {
         true
     }
 
-    // The first digit of the list that is of a's class. Each is tested where it stands and the one found is copied: copied first, each would be read whole, which takes half as long again.
+    // The first digit of the list that is of a's class. Each is tested where it stands and the one found is copied; copied first, each would be read whole, at the cost of time.
     pub fn digit_of(&self, a: Element<i32>) -> Option<Digit>
         requires { Below (2 ^ 24) (short a) }
         ensures { MatchOption result (Unclassed S.ring self.now.width.places (elems self.now.digits.now) (short a)) (λ d. FirstOf S.ring self.now.width.places (elems self.now.digits.now) (short a) (elem_of d)) }
