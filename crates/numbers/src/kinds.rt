@@ -70,7 +70,7 @@ pub trait Coordinate: Copy + PartialEq + From<i32> + Add<Output = Self> + Sub<Ou
     ghost limits: { (1024 ≤ LOADING) × (16 * LOADING ≤ WORKING) × (2 ^ 28 ≤ WORKING) × (LOADING ≤ 2 ^ 56) };
 }
 
-// The short kind: 32 bits. The two kinds have four bodies of a line each, which call what std gives each width by itself: no trait of std has it for both.
+// The short kind: 32 bits. The two kinds have four bodies of a line each, which call what std gives each width by itself: no trait of std has it for both. `works` has a body of its own here for speed alone.
 impl Coordinate for i32 {
     ghost value = { λ x. x };
 
